@@ -1,0 +1,15 @@
+-- Numbers and fields of a format. All are little-endian (UEFI 2.10, 1.8.1).
+use Rattle.std.specs.Prelude.{ℕ, ◌+◌, ◌*◌, ◌/◌, ◌%◌, List, [], ◌∷◌, take, drop}
+
+-- the number of a list of bytes, the lowest first
+abbrev pub number : List ℕ → ℕ
+number [] = 0
+number (b ∷ bs) = b + 256 * number bs
+
+-- the bytes of a field of this size at a place, or those that are there
+abbrev pub field : List ℕ → ℕ → ℕ → List ℕ
+field bytes at size = take size (drop at bytes)
+
+-- the number in a field
+abbrev pub number_at : List ℕ → ℕ → ℕ → ℕ
+number_at bytes at size = number (field bytes at size)
