@@ -6,6 +6,7 @@
 
 mod choice;
 mod event;
+mod limits;
 mod report;
 mod snapshot;
 mod trace;
@@ -14,6 +15,7 @@ mod unit;
 pub use choice::Choice;
 use cu_base::Items;
 pub use event::Event;
+pub use limits::{MAX_FILES, MAX_MEMORY_BYTES, MAX_SEGMENTS, MAX_STAGED};
 pub use report::Report;
 pub use snapshot::{CapsuleResult, EsrtEntry, FmpResult, FolderFile, Snapshot, StagedPair};
 pub use trace::{Answer, BootEnd, Entry};
