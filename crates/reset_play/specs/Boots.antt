@@ -1,6 +1,6 @@
 -- A boot of the reference machine, step by step. One function gives the next step from the machine and from what is left
 -- of the boot; a boot is its iteration, so that each step and the machine after it have a number.
-use Rattle.std.specs.Prelude.{ℕ, zero, suc, Bool, true, false, ◌+◌, ◌*◌, ◌==◌, not, nat_lt, List, [], ◌∷◌, ◌++◌, length, map, filter, flat_map, count_by, find, drop, Option, None, Some, option_to_list, option_map, if◌then◌else◌}
+use Rattle.std.specs.Prelude.{ℕ, zero, suc, Bool, false, ◌+◌, ◌*◌, ◌==◌, not, nat_lt, List, [], ◌∷◌, ◌++◌, length, map, filter, flat_map, count_by, find, drop, Option, None, Some, option_map, unwrap_or, if◌then◌else◌}
 use Rattle.std.specs.List.{list_any, range_with_len}
 use Rattle.cu_base.specs.declared.time.EfiTime.{EfiTime}
 use Rattle.reset_play.specs.declared.snapshot.StagedPair.{StagedPair}
@@ -43,10 +43,18 @@ kept_with kept key =
     then if list_any (λ s. s == key.ticket.serial) kept then kept else kept ++ key.ticket.serial ∷ []
     else kept
 
--- an element of a unit, with version, floor and payload of its image's parts where it has some
+-- an element of a unit, with version, floor and payload of its image's parts, and 0, 0 and nothing where it has none
 abbrev pub element_with : BootUnit → Standing → Option Parts → Element
-element_with u standing None = record { kind = u.kind; key = u.key; capsule = u.capsule; head = u.head; version = 0; floor = 0; payload = []; standing = standing }
-element_with u standing (Some p) = record { kind = u.kind; key = u.key; capsule = u.capsule; head = u.head; version = p.version; floor = p.lowest; payload = p.payload; standing = standing }
+element_with u standing parts = record {
+  kind = u.kind;
+  key = u.key;
+  capsule = u.capsule;
+  head = u.head;
+  version = unwrap_or (option_map (λ p. p.version) parts) 0;
+  floor = unwrap_or (option_map (λ p. p.lowest) parts) 0;
+  payload = unwrap_or (option_map (λ p. p.payload) parts) [];
+  standing = standing;
+}
 
 -- the parts of what a unit tries: none where it tries nothing
 abbrev pub parts_tried : Formats → BootUnit → Kind → Option Parts
@@ -170,10 +178,19 @@ memory_delivery f m p = record { route = 0; serial = p.serial; name = []; bytes 
 abbrev pub file_delivery : File → Delivery
 file_delivery x = record { route = 1; serial = x.serial; name = x.name; bytes = Some x.bytes }
 
--- the work on staged deliveries: by rising serial each is taken out, and then its units are done
+-- the staged deliveries by rising serial, and the files by their upper-cased names
+abbrev pub staged_in_order : Machine → List StagedPair
+staged_in_order m = in_order (λ a b. nat_lt a.serial b.serial) m.staged
+
+abbrev pub files_in_order : Machine → List File
+files_in_order m = in_order (λ a b. is_taken_before a.name b.name) m.files
+
+-- the work on a staged delivery: it is taken out, and then its units are done
+abbrev pub pair_work : Formats → Machine → StagedPair → List Work
+pair_work f m p = Unstages p ∷ map Does (units f (memory_delivery f m p) m.board)
+
 abbrev pub staged_work : Formats → Machine → List Work
-staged_work f m =
-    flat_map (λ p. Unstages p ∷ map Does (units f (memory_delivery f m p) m.board)) (in_order (λ a b. nat_lt a.serial b.serial) m.staged)
+staged_work f m = flat_map (pair_work f m) (staged_in_order m)
 
 -- the work on a file: its units that are not spent yet are done, and then it is removed
 abbrev pub file_work : Formats → Machine → File → List Work
@@ -182,11 +199,11 @@ file_work f m x = map Does (drop (spent m.list x.serial) (units f (file_delivery
 abbrev pub prune_work : Machine → List Work
 prune_work m = if list_any (λ s. not (is_file m.files s)) m.kept then Prunes ∷ [] else []
 
--- the work on the folder, where the platform was asked for it: files go by their upper-cased names
+-- the work on the folder, where the platform was asked for it
 abbrev pub folder_work : Formats → Machine → List Work
 folder_work f m =
     if m.bit
-    then prune_work m ++ flat_map (file_work f m) (in_order (λ a b. is_taken_before a.name b.name) m.files) ++ Clears ∷ []
+    then prune_work m ++ flat_map (file_work f m) (files_in_order m) ++ Clears ∷ []
     else []
 
 abbrev pub work_with : Formats → Machine → End → Option Element → List Work

@@ -1,8 +1,7 @@
 -- Deliveries and their units. A delivery holds capsules back to back; a unit is one piece of work of a boot.
-use Rattle.std.specs.Prelude.{ℕ, Bool, ◌+◌, ◌==◌, ◌||◌, ◌&&◌, not, nat_lt, List, [], ◌∷◌, ◌++◌, length, map, filter, flat_map, bytes_eq, Option, None, Some, option_and_then, if◌then◌else◌}
+use Rattle.std.specs.Prelude.{ℕ, Bool, ◌==◌, ◌||◌, ◌&&◌, not, nat_lt, List, [], ◌∷◌, length, map, filter, flat_map, bytes_eq, Option, None, Some, option_and_then, if◌then◌else◌}
 use Rattle.std.specs.List.{enumerate_from}
 use Rattle.cu_base.specs.declared.guid.Guid.{Guid}
-use Rattle.cu_base.specs.declared.ticket.Ticket.{Ticket}
 use Rattle.reset_play.specs.declared.unit.Kind.{Kind}
 use Rattle.reset_play.specs.declared.unit.Kind.TheVariants.{Try, Skip, NoTarget, Bad}
 use Rattle.reset_play.specs.declared.unit.UnitKey.{UnitKey}

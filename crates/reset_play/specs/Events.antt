@@ -1,26 +1,21 @@
 -- The events of a play: what each may tell, and which machine it leaves. One outcome is that of a platform on which nothing
 -- fails; the others are those after a fault, and those that only the outside decides.
-use Rattle.std.specs.Prelude.{ℕ, Bool, true, false, ◌+◌, ◌-◌, ◌*◌, ◌/◌, ◌%◌, ◌^◌, ◌==◌, ◌&&◌, ◌||◌, not, nat_lt, nat_le, ◌≡◌, ◌⊎◌, List, [], ◌∷◌, ◌++◌, length, map, filter, flat_map, sum_by, Option, None, Some, Result, Ok, Err, if◌then◌else◌}
+use Rattle.std.specs.Prelude.{ℕ, Bool, true, false, ◌+◌, ◌-◌, ◌/◌, ◌%◌, ◌^◌, ◌==◌, ◌&&◌, ◌||◌, not, nat_lt, nat_le, ◌≡◌, ◌⊎◌, List, [], ◌∷◌, ◌++◌, length, map, filter, flat_map, sum_by, Option, None, Some, Result, Ok, Err, if◌then◌else◌}
 use Rattle.std.specs.List.{list_any, list_all, range_with_len}
-use Rattle.cu_base.specs.declared.limits.TheConstants.{MAX_CAPSULE_BYTES}
 use Rattle.cu_base.specs.declared.time.EfiTime.{EfiTime}
 use Rattle.fmp_headers.specs.declared.capsule.CapsuleHeader.{CapsuleHeader}
 use Rattle.fmp_headers.specs.declared.faults.HeaderFault.{HeaderFault}
 use Rattle.fmp_headers.specs.CapsuleHeader.{capsule_header}
 use Rattle.reset_play.specs.declared.limits.TheConstants.{MAX_FILES, MAX_STAGED, MAX_SEGMENTS, MAX_MEMORY_BYTES}
-use Rattle.reset_play.specs.declared.snapshot.FolderFile.{FolderFile}
-use Rattle.reset_play.specs.declared.snapshot.StagedPair.{StagedPair}
 use Rattle.reset_play.specs.declared.trace.BootEnd.{BootEnd}
 use Rattle.reset_play.specs.declared.trace.BootEnd.TheVariants as ends
 use Rattle.reset_play.specs.declared.unit.End.{End}
 use Rattle.reset_play.specs.declared.unit.End.TheVariants.{Sealed, Kept, Lost}
-use Rattle.reset_play.specs.Board.{Board}
-use Rattle.reset_play.specs.Boots.{Work, Progress, boot_at, boot_of, next}
+use Rattle.reset_play.specs.Boots.{Work, Progress, boot_at, boot_of, next, files_in_order, staged_in_order}
 use Rattle.reset_play.specs.Boots.Work.{Settles, Unstages, Does, Prunes, Removes, Clears}
-use Rattle.reset_play.specs.Formats.{Segment, Formats}
-use Rattle.reset_play.specs.Machine.{File, Machine, fresh}
-use Rattle.reset_play.specs.Names.{is_same_name, is_taken_before}
-use Rattle.reset_play.specs.Order.{in_order}
+use Rattle.reset_play.specs.Formats.{Formats}
+use Rattle.reset_play.specs.Machine.{Machine}
+use Rattle.reset_play.specs.Names.{is_same_name}
 use Rattle.reset_play.specs.Report.{Reported, nothing_done}
 use Rattle.reset_play.specs.Results.{esrt_of, results_of, last_result}
 use Rattle.reset_play.specs.Spent.{is_open}
@@ -140,8 +135,8 @@ picture m = record {
   esrt = esrt_of m.board m.list;
   results = results_of m.board m.list;
   last = last_result m.board m.list;
-  files = map (λ x. record { name = x.name; serial = x.serial; size = length x.bytes }) (in_order (λ a b. is_taken_before a.name b.name) m.files);
-  staged = in_order (λ a b. nat_lt a.serial b.serial) m.staged;
+  files = map (λ x. record { name = x.name; serial = x.serial; size = length x.bytes }) (files_in_order m);
+  staged = staged_in_order m;
 }
 
 abbrev pub booted : Reported → BootEnd → Said

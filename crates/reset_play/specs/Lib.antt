@@ -3,6 +3,7 @@ pub mod Boots
 pub mod Deliveries
 pub mod Events
 pub mod Formats
+pub mod Laws
 pub mod Machine
 pub mod Names
 pub mod Order

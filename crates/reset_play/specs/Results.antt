@@ -1,10 +1,9 @@
 -- What the platform shows of the list of spent units: the last attempt of each device, the result variables (UEFI 2.10,
 -- 8.5.6) and the EFI System Resource Table (UEFI 2.10, 23.4).
-use Rattle.std.specs.Prelude.{ℕ, Bool, ◌+◌, ◌%◌, ◌^◌, ◌==◌, ◌&&◌, not, List, [], ◌∷◌, length, map, filter, filter_map, find, slice_get, Option, None, Some, option_map, option_and_then, unwrap_or, if◌then◌else◌}
-use Rattle.std.specs.List.{enumerate_from, last_or, list_any, range_with_len}
+use Rattle.std.specs.Prelude.{ℕ, ◌+◌, ◌%◌, ◌^◌, ◌==◌, ◌&&◌, not, List, [], ◌∷◌, map, filter, filter_map, find, slice_get, Option, None, Some, option_map, option_and_then, unwrap_or, if◌then◌else◌}
+use Rattle.std.specs.List.{enumerate_from, last_or, range_with_len}
 use Rattle.cu_base.specs.declared.guid.Guid.{Guid}
 use Rattle.cu_base.specs.declared.status.EfiStatus.{EfiStatus}
-use Rattle.cu_base.specs.declared.time.EfiTime.{EfiTime}
 use Rattle.reset_play.specs.declared.snapshot.CapsuleResult.{CapsuleResult}
 use Rattle.reset_play.specs.declared.snapshot.EsrtEntry.{EsrtEntry}
 use Rattle.reset_play.specs.declared.snapshot.FmpResult.{FmpResult}

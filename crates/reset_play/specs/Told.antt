@@ -1,5 +1,5 @@
 -- What a play tells, as values: the entries of a trace without the room that their lists keep.
-use Rattle.std.specs.Prelude.{ℕ, List, Option, map}
+use Rattle.std.specs.Prelude.{ℕ, List, Option}
 use Rattle.reset_play.specs.declared.snapshot.CapsuleResult.{CapsuleResult}
 use Rattle.reset_play.specs.declared.snapshot.EsrtEntry.{EsrtEntry}
 use Rattle.reset_play.specs.declared.snapshot.FolderFile.{FolderFile}

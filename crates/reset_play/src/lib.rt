@@ -6,6 +6,7 @@
 
 mod choice;
 mod event;
+mod laws;
 mod limits;
 mod report;
 mod snapshot;
@@ -15,6 +16,7 @@ mod unit;
 pub use choice::Choice;
 use cu_base::Items;
 pub use event::Event;
+pub use laws::{attempts_reach_the_floor, floor_never_falls, the_last_alone_is_open};
 pub use limits::{MAX_FILES, MAX_MEMORY_BYTES, MAX_SEGMENTS, MAX_STAGED};
 pub use report::Report;
 pub use snapshot::{CapsuleResult, EsrtEntry, FmpResult, FolderFile, Snapshot, StagedPair};
