@@ -6,3 +6,4 @@ pub mod Keeping
 pub mod Lists
 pub mod Once
 pub mod Reached
+pub mod SampleTexts

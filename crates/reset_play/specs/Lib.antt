@@ -9,7 +9,9 @@ pub mod Names
 pub mod Order
 pub mod Report
 pub mod Results
+pub mod Samples
 pub mod Spent
+pub mod Texts
 pub mod Thin
 pub mod Told
 pub mod Verdicts

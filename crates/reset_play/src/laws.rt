@@ -7,6 +7,7 @@ ghost use Rattle.reset_play.specs.Events.{Act, Run, trace_of, machine_after};
 ghost use Rattle.reset_play.specs.Formats.{Formats};
 ghost use Rattle.reset_play.specs.Laws.{IsReached, OpenIsLast, AttemptsReachFloor, AreApart, TellNoFault};
 ghost use Rattle.reset_play.specs.Machine.{Machine, fresh};
+ghost use Rattle.reset_play.specs.Samples.{sample_text, text_of, redelivery, lower_version, refusals, wrapping, redelivery_lines, lower_version_lines, refusals_lines, wrapping_lines};
 ghost use Rattle.reset_play.specs.Spent.{Element, floor_of};
 ghost use Rattle.reset_play.specs.Told.{Said};
 
@@ -38,4 +39,13 @@ pub fn without_faults_there_is_one_machine()
         (told ≡ trace_of f (fresh board) acts) × (m ≡ machine_after f (fresh board) acts) }
     ensures some { (f : Formats) (board : Board) (acts : List Act) →
         Run f (fresh board) acts (trace_of f (fresh board) acts) (machine_after f (fresh board) acts) }
+{}
+
+/// What the definitions say of four scripts on a board of one device is what these scripts are to print: a file that is
+/// delivered again, a version below the floor, the checks in their order, and results past the greatest number.
+pub fn sample_plays()
+    ensures redelivery { sample_text 15 redelivery ≡ text_of redelivery_lines }
+    ensures lower_version { sample_text 15 lower_version ≡ text_of lower_version_lines }
+    ensures refusals { sample_text 15 refusals ≡ text_of refusals_lines }
+    ensures wrapping { sample_text 1 wrapping ≡ text_of wrapping_lines }
 {}
