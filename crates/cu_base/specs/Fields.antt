@@ -1,5 +1,5 @@
 -- Numbers and fields of a format. All are little-endian (UEFI 2.10, 1.8.1).
-use Rattle.std.specs.Prelude.{ℕ, ◌+◌, ◌*◌, ◌/◌, ◌%◌, List, [], ◌∷◌, take, drop}
+use Rattle.std.specs.Prelude.{ℕ, zero, suc, ◌+◌, ◌*◌, ◌/◌, ◌%◌, List, [], ◌∷◌, take, drop}
 
 -- the number of a list of bytes, the lowest first
 abbrev pub number : List ℕ → ℕ
@@ -13,3 +13,8 @@ field bytes at size = take size (drop at bytes)
 -- the number in a field
 abbrev pub number_at : List ℕ → ℕ → ℕ → ℕ
 number_at bytes at size = number (field bytes at size)
+
+-- the bytes of a number, the lowest first
+abbrev pub bytes_of : ℕ → ℕ → List ℕ
+bytes_of zero n = []
+bytes_of (suc size) n = n % 256 ∷ bytes_of size (n / 256)
