@@ -5,7 +5,7 @@ use Rattle.reset_play.specs.declared.trace.BootEnd.{BootEnd}
 use Rattle.reset_play.specs.declared.trace.BootEnd.TheVariants as ends
 use Rattle.reset_play.specs.declared.unit.End.{End}
 use Rattle.reset_play.specs.declared.unit.End.TheVariants.{Refused, Sealed, Kept, Lost}
-use Rattle.reset_play.specs.Board.{Board}
+use Rattle.bench_model.specs.Boards.{BoardValue}
 use Rattle.reset_play.specs.Boots.{boot_at}
 use Rattle.reset_play.specs.Events.{Act, Run}
 use Rattle.reset_play.specs.Formats.{Formats}
@@ -23,7 +23,7 @@ IsHeldEnd Kept = Unit {0}
 IsHeldEnd Lost = Unit {0}
 
 -- a machine that some events and then some steps of a boot lead to from a fresh board, with or without faults
-pub record IsReached (f : Formats) (board : Board) (m : Machine) : Type 0 where
+pub record IsReached (f : Formats) (board : BoardValue) (m : Machine) : Type 0 where
   pub acts : List Act
   pub told : List Said
   pub between : Machine
@@ -38,7 +38,7 @@ abbrev pub OpenIsLast : List Element → Type 0
 OpenIsLast list = (before rest : List Element) (e : Element) → list ≡ before ++ e ∷ rest → IsTrue (is_open e) → rest ≡ []
 
 -- an attempt has at least the version that is the floor in force where it stands
-abbrev pub AttemptsReachFloor : Board → List Element → Type 0
+abbrev pub AttemptsReachFloor : BoardValue → List Element → Type 0
 AttemptsReachFloor board list =
     (before rest : List Element) (e : Element) → list ≡ before ++ e ∷ rest → IsTrue (is_attempt e) → floor_of board before e.key.device ≤ e.version
 

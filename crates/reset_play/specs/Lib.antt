@@ -1,4 +1,3 @@
-pub mod Board
 pub mod Boots
 pub mod Deliveries
 pub mod Events

@@ -4,7 +4,8 @@ use Rattle.sha2.specs.Sha256.{sha256}
 use Rattle.cu_base.specs.declared.digest.Digest.{Digest}
 use Rattle.reset_play.specs.declared.event.Event.{Event}
 use Rattle.reset_play.specs.declared.event.Event.TheVariants as events
-use Rattle.reset_play.specs.Board.{Board, Device}
+use Rattle.bench_model.specs.Boards.{BoardValue}
+use Rattle.bench_model.specs.Devices.{DeviceValue}
 use Rattle.reset_play.specs.Events.{act_of, trace_of}
 use Rattle.reset_play.specs.Machine.{fresh}
 use Rattle.reset_play.specs.Texts.{trace_text}
@@ -48,7 +49,7 @@ abbrev pub sample_digests : List Digest
 sample_digests = map (λ p. record { bytes = sha256 p.1 }) (filter (λ p. not (bytes_eq p.0 (codes "c5"))) sample_images)
 
 -- one device, of version 3 and floor 2, that takes payloads of at most 4 bytes
-abbrev pub sample_device : Device
+abbrev pub sample_device : DeviceValue
 sample_device = record {
   name = codes "sys";
   type_id = record { bytes = sample_type };
@@ -61,7 +62,7 @@ sample_device = record {
   flags = 0;
 }
 
-abbrev pub sample_board : ℕ → Board
+abbrev pub sample_board : ℕ → BoardValue
 sample_board result_max = record { bank = 65536; result_max = result_max; digests = sample_digests; devices = sample_device ∷ [] }
 
 abbrev pub drop : List ℕ → List ℕ → Event

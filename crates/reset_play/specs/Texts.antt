@@ -18,7 +18,7 @@ use Rattle.reset_play.specs.declared.trace.BootEnd.TheVariants as ends
 use Rattle.reset_play.specs.declared.unit.Kind.{Kind}
 use Rattle.reset_play.specs.declared.unit.Kind.TheVariants.{Try, Heal, Skip, NoTarget, Bad}
 use Rattle.reset_play.specs.declared.unit.UnitLine.{UnitLine}
-use Rattle.reset_play.specs.Board.{Board}
+use Rattle.bench_model.specs.Boards.{BoardValue}
 use Rattle.reset_play.specs.Told.{Told, Picture}
 use Rattle.reset_play.specs.Told.Told.{Done, Serial, FlashFault, VolumeFault, NoBank, Full, Wraps, Invalid, Unsupported, Resources, Booted, Shown}
 
@@ -82,11 +82,11 @@ attempt_text NoTarget text = dash
 attempt_text Bad text = dash
 
 -- the name of a device of the board
-abbrev pub device_text : Board → ℕ → List ℕ
+abbrev pub device_text : BoardValue → ℕ → List ℕ
 device_text board d = unwrap_or (option_map (λ x. x.name) (slice_get board.devices d)) dash
 
 -- a line of a boot: kind, source, capsule, item, target, status, version, result
-abbrev pub unit_text : Board → UnitLine → List ℕ
+abbrev pub unit_text : BoardValue → UnitLine → List ℕ
 unit_text board l =
     indented (kind_word l.kind ∷ source_text l.key.ticket l.key.name ∷ capsule_text l.kind l.key.ticket.capsule
     ∷ item_text l.kind l.key.ticket.item ∷ attempt_text l.kind (device_text board l.key.device) ∷ status_text l.status
@@ -126,7 +126,7 @@ picture_text p =
     flat_map esrt_text p.esrt ++ flat_map result_text p.results ++ last_text p.last ++ flat_map file_text p.files ++ flat_map staged_text p.staged
 
 -- the lines before an event's own
-abbrev pub lines_before : Board → Told → List ℕ
+abbrev pub lines_before : BoardValue → Told → List ℕ
 lines_before board Done = []
 lines_before board (Serial serial) = []
 lines_before board FlashFault = []
@@ -174,15 +174,15 @@ answer_words (Booted report end) = end_word end ∷ []
 answer_words (Shown picture) = codes "ok" ∷ []
 
 -- the lines of the n-th event
-abbrev pub entry_text : Board → ℕ → Event → Told → List ℕ
+abbrev pub entry_text : BoardValue → ℕ → Event → Told → List ℕ
 entry_text board n event answer = lines_before board answer ++ line (decimal n ∷ event_word event ∷ answer_words answer)
 
 -- the lines of events from the n-th on, as far as there are answers
-abbrev pub entries_text : Board → ℕ → List Event → List Told → List ℕ
+abbrev pub entries_text : BoardValue → ℕ → List Event → List Told → List ℕ
 entries_text board n [] answers = []
 entries_text board n (event ∷ events) [] = []
 entries_text board n (event ∷ events) (answer ∷ answers) = entry_text board n event answer ++ entries_text board (n + 1) events answers
 
 -- events count from 1; the last line tells how many there are
-abbrev pub trace_text : Board → List Event → List Told → List ℕ
+abbrev pub trace_text : BoardValue → List Event → List Told → List ℕ
 trace_text board events answers = entries_text board 1 events answers ++ line (codes "done" ∷ decimal (length events) ∷ [])

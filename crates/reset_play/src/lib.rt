@@ -4,7 +4,6 @@
 //! checks of an attempt, the steps of a boot, and which machine each event leaves. Contracts speak of a play by these words.
 #![tactic(auto)]
 
-mod choice;
 mod event;
 mod laws;
 mod limits;
@@ -13,7 +12,6 @@ mod snapshot;
 mod trace;
 mod unit;
 
-pub use choice::Choice;
 use cu_base::Items;
 pub use event::Event;
 pub use laws::{
