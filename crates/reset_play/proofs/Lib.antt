@@ -7,3 +7,4 @@ pub mod Lists
 pub mod Once
 pub mod Reached
 pub mod SampleTexts
+pub mod TextLemmas

@@ -9,6 +9,7 @@ mod laws;
 mod limits;
 mod report;
 mod snapshot;
+mod text;
 mod trace;
 mod unit;
 
@@ -21,6 +22,7 @@ pub use laws::{
 pub use limits::{MAX_FILES, MAX_MEMORY_BYTES, MAX_SEGMENTS, MAX_STAGED};
 pub use report::Report;
 pub use snapshot::{CapsuleResult, EsrtEntry, FmpResult, FolderFile, Snapshot, StagedPair};
+pub use text::trace_text;
 pub use trace::{Answer, BootEnd, Entry};
 pub use unit::{End, Kind, UnitKey, UnitLine};
 
