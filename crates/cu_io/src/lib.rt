@@ -17,7 +17,7 @@ mod write;
 pub use files::{FileInputs, FileSource, StdSink};
 pub use inputs::{Inputs, OpenFault};
 pub use loaded::Loaded;
-pub use memory::{MemInputs, MemSink, MemSource};
+pub use memory::{MemInputs, MemSink, MemSource, NoFaultInputs, NoFaultSink, NoFaultSource};
 pub use read::{ReadFault, read_whole};
 pub use sink::{Sink, SinkFault};
 pub use source::Source;
