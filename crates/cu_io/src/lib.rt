@@ -12,6 +12,8 @@ mod memory;
 mod read;
 mod sink;
 mod source;
+#[cfg(test)]
+mod tests;
 mod write;
 
 pub use files::{FileInputs, FileSource, StdSink};
