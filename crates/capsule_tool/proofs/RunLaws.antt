@@ -16,22 +16,21 @@ use Rattle.capsule_tool.specs.Statuses.{code_of}
 use Rattle.capsule_tool.specs.Told.{word, told_of, verdict_answer, check_answer, reading_of, MayFind, Writes}
 use Rattle.capsule_tool.specs.declared.answer.Answer.{Answer}
 use Rattle.capsule_tool.specs.declared.check.Verdict.{Verdict}
-use Rattle.capsule_tool.specs.declared.check.Verdict.TheVariants.{Whole as WholeCapsule, Refused, Later}
+use Rattle.capsule_tool.specs.declared.check.Verdict.TheVariants.{Whole as WholeCapsule, Refused, Trailing}
 use Rattle.capsule_tool.specs.declared.form.Form.{Form}
 use Rattle.capsule_tool.specs.declared.form.Form.TheVariants.{Check, Show, Rebuild, Make, Play, Load}
 use Rattle.capsule_tool.specs.declared.input.Reading.{Reading}
 use Rattle.capsule_tool.specs.declared.input.Reading.TheVariants.{Whole, Unread, Long}
 
 -- the statuses that bytes may have
-verdict_code : (name : List ℕ) (verdict : Verdict) → (code_of (verdict_answer name verdict).status < 2) ⊎ (code_of (verdict_answer name verdict).status ≡ 8)
-verdict_code name (WholeCapsule n) = inl (omega arith)
-verdict_code name (Refused at why) = inl (omega arith)
-verdict_code name Later = inr refl
+verdict_code : (verdict : Verdict) → code_of (verdict_answer verdict).status < 2
+verdict_code (WholeCapsule n) = omega arith
+verdict_code (Refused refusal) = omega arith
+verdict_code (Trailing at) = omega arith
 
--- they are neither 2, 4 nor 7
-not_by_bytes : (name : List ℕ) (verdict : Verdict) (k : ℕ) → code_of (verdict_answer name verdict).status ≡ k → 2 ≤ k → k < 8 → ⊥
-not_by_bytes name verdict k same low high =
-    elim (verdict_code name verdict) [ inl small ↦ omega (arith, small, same, low, high) | inr eight ↦ omega (arith, eight, same, low, high) ]
+-- they are neither 2, 4, 5 nor 7
+not_by_bytes : (verdict : Verdict) (k : ℕ) → code_of (verdict_answer verdict).status ≡ k → 2 ≤ k → ⊥
+not_by_bytes verdict k same high = omega (arith, verdict_code verdict, same, high)
 
 code_at : (a b : Answer) → a ≡ b → code_of a.status ≡ code_of b.status
 code_at a b same = ap (λ (x : Answer). code_of x.status) same
@@ -99,7 +98,7 @@ pub usage_found : (form : Option Form) (words : List (List ℕ)) (named : Option
     → MayFind form named words faults faults' taken taken' answer → code_of answer.status ≡ 2 → (form ≡ None) × (answer ≡ usage)
 usage_found None words named f f' t t' answer found is = (refl, found)
 usage_found (Some Check) words named f f' t t' answer (Whole bytes, is_reading, same) is =
-    absurd (not_by_bytes (word words 1) (verdict_of bytes) 2 (sym (code_at _ _ same) ∙ is) (omega arith) (omega arith))
+    absurd (not_by_bytes (verdict_of bytes) 2 (sym (code_at _ _ same) ∙ is) (omega arith))
 usage_found (Some Check) words named f f' t t' answer (Unread, is_reading, same) is = absurd (omega (arith, code_at _ _ same, is))
 usage_found (Some Check) words named f f' t t' answer (Long, is_reading, same) is = absurd (omega (arith, code_at _ _ same, is))
 usage_found (Some Show) words named f f' t t' answer found is = absurd (omega (arith, code_at _ _ found, is))
@@ -114,7 +113,7 @@ pub unread_found : (form : Option Form) (words : List (List ℕ)) (named : Optio
     → (form ≡ Some Check) × (Rose faults faults' ⊎ IsMissing named (word words 1)) × (answer ≡ unread (word words 1))
 unread_found None words named f f' t t' answer found is = absurd (omega (arith, code_at _ _ found, is))
 unread_found (Some Check) words named f f' t t' answer (Whole bytes, is_reading, same) is =
-    absurd (not_by_bytes (word words 1) (verdict_of bytes) 4 (sym (code_at _ _ same) ∙ is) (omega arith) (omega arith))
+    absurd (not_by_bytes (verdict_of bytes) 4 (sym (code_at _ _ same) ∙ is) (omega arith))
 unread_found (Some Check) words named f f' t t' answer (Unread, is_reading, same) is = (refl, is_reading, same)
 unread_found (Some Check) words named f f' t t' answer (Long, is_reading, same) is = absurd (omega (arith, code_at _ _ same, is))
 unread_found (Some Show) words named f f' t t' answer found is = absurd (omega (arith, code_at _ _ found, is))
@@ -129,7 +128,7 @@ pub long_found : (form : Option Form) (words : List (List ℕ)) (named : Option 
     → (form ≡ Some Check) × MayPassLimit named (word words 1) × RoseBy (MAX_CAPSULE_BYTES + 1) taken taken' × (answer ≡ long (word words 1))
 long_found None words named f f' t t' answer found is = absurd (omega (arith, code_at _ _ found, is))
 long_found (Some Check) words named f f' t t' answer (Whole bytes, is_reading, same) is =
-    absurd (not_by_bytes (word words 1) (verdict_of bytes) 7 (sym (code_at _ _ same) ∙ is) (omega arith) (omega arith))
+    absurd (not_by_bytes (verdict_of bytes) 7 (sym (code_at _ _ same) ∙ is) (omega arith))
 long_found (Some Check) words named f f' t t' answer (Unread, is_reading, same) is = absurd (omega (arith, code_at _ _ same, is))
 long_found (Some Check) words named f f' t t' answer (Long, is_reading, same) is = (refl, is_reading.0, is_reading.1, same)
 long_found (Some Show) words named f f' t t' answer found is = absurd (omega (arith, code_at _ _ found, is))
@@ -141,7 +140,7 @@ long_found (Some Load) words named f f' t t' answer found is = absurd (omega (ar
 -- 0 and 1 come by the bytes alone
 pub judged_found : (form : Option Form) (words : List (List ℕ)) (named : Option Named) (faults faults' taken taken' : ℕ) (answer : Answer)
     → MayFind form named words faults faults' taken taken' answer → code_of answer.status < 2
-    → (form ≡ Some Check) × ((bytes : List ℕ) × MayHold named (word words 1) bytes × (length bytes ≤ MAX_CAPSULE_BYTES) × (answer ≡ verdict_answer (word words 1) (verdict_of bytes)))
+    → (form ≡ Some Check) × ((bytes : List ℕ) × MayHold named (word words 1) bytes × (length bytes ≤ MAX_CAPSULE_BYTES) × (answer ≡ verdict_answer (verdict_of bytes)))
 judged_found None words named f f' t t' answer found is = absurd (omega (arith, code_at _ _ found, is))
 judged_found (Some Check) words named f f' t t' answer (Whole bytes, is_reading, same) is = (refl, (bytes, is_reading.0, is_reading.1, same))
 judged_found (Some Check) words named f f' t t' answer (Unread, is_reading, same) is = absurd (omega (arith, code_at _ _ same, is))
@@ -157,7 +156,7 @@ pub unwritten_found : (form : Option Form) (words : List (List ℕ)) (named : Op
     → MayFind form named words faults faults' taken taken' answer → code_of answer.status ≡ 5 → ⊥
 unwritten_found None words named f f' t t' answer found is = omega (arith, code_at _ _ found, is)
 unwritten_found (Some Check) words named f f' t t' answer (Whole bytes, is_reading, same) is =
-    not_by_bytes (word words 1) (verdict_of bytes) 5 (sym (code_at _ _ same) ∙ is) (omega arith) (omega arith)
+    not_by_bytes (verdict_of bytes) 5 (sym (code_at _ _ same) ∙ is) (omega arith)
 unwritten_found (Some Check) words named f f' t t' answer (Unread, is_reading, same) is = omega (arith, code_at _ _ same, is)
 unwritten_found (Some Check) words named f f' t t' answer (Long, is_reading, same) is = omega (arith, code_at _ _ same, is)
 unwritten_found (Some Show) words named f f' t t' answer found is = omega (arith, code_at _ _ found, is)

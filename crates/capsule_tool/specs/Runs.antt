@@ -25,8 +25,8 @@ abbrev pub Judges : Option Form → List (List ℕ) → Option Named → ℕ →
 Judges form words named status written written' =
     (form ≡ Some Check)
     × ((bytes : List ℕ) × MayHold named (word words 1) bytes × (length bytes ≤ MAX_CAPSULE_BYTES)
-    × (code_of (verdict_answer (word words 1) (verdict_of bytes)).status ≡ status)
-    × Appends written written' (verdict_answer (word words 1) (verdict_of bytes)).text)
+    × (code_of (verdict_answer (verdict_of bytes)).status ≡ status)
+    × Appends written written' (verdict_answer (verdict_of bytes)).text)
 
 -- the words have none of the forms
 abbrev pub IsUsage : Option Form → Option (List ℕ) → Option (List ℕ) → Type 0
@@ -44,11 +44,10 @@ IsLong form words named taken taken' written written' =
     (form ≡ Some Check) × MayPassLimit named (word words 1) × RoseBy (MAX_CAPSULE_BYTES + 1) taken taken'
     × Appends written written' (long (word words 1)).text
 
--- the words have another form than `check FILE`, or the bytes of its file begin as an FMP capsule
-abbrev pub IsLater : Option Form → List (List ℕ) → Option Named → Option (List ℕ) → Option (List ℕ) → Type 0
-IsLater form words named written written' =
-    Judges form words named 8 written written'
-    ⊎ ((form ≢ None) × (form ≢ Some Check) × Appends written written' (later (word words 0)).text)
+-- the words have another form than `check FILE`
+abbrev pub IsLater : Option Form → List (List ℕ) → Option (List ℕ) → Option (List ℕ) → Type 0
+IsLater form words written written' =
+    (form ≢ None) × (form ≢ Some Check) × Appends written written' (later (word words 0)).text
 
 abbrev pub IsStatus : ℕ → Type 0
 IsStatus status = (status ≤ 8) × (status ≢ 3)

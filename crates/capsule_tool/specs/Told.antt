@@ -1,18 +1,18 @@
 -- The whole program: what it finds and writes, by its words and its inputs.
-use Rattle.std.specs.Prelude.{◌≡◌, ℕ, ◌⊎◌, List, [], ◌∷◌, ◌++◌, length, nat_lt, slice_index_or, Option, None, Some, if◌then◌else◌}
+use Rattle.std.specs.Prelude.{◌≡◌, ℕ, ◌⊎◌, List, [], ◌∷◌, ◌++◌, length, nat_lt, slice_index_or, codes, Option, None, Some, if◌then◌else◌}
 use Rattle.std.specs.Io.KnownBytes.{Appends}
 use Rattle.cu_base.specs.Causes.{Rose}
 use Rattle.cu_base.specs.declared.limits.TheConstants.{MAX_CAPSULE_BYTES}
 use Rattle.cu_io.specs.Named.{Named, bytes_named}
 use Rattle.cu_io.specs.Streams.{AppendsFront}
 use Rattle.capsule_tool.specs.Answers.{usage, done, refused, later, unread, long}
-use Rattle.capsule_tool.specs.Check.{verdict_of}
+use Rattle.capsule_tool.specs.Check.{verdict_of, name_of}
 use Rattle.capsule_tool.specs.Forms.{form_of}
 use Rattle.capsule_tool.specs.Readings.{IsReading}
 use Rattle.capsule_tool.specs.Statuses.{code_of}
 use Rattle.capsule_tool.specs.declared.answer.Answer.{Answer}
 use Rattle.capsule_tool.specs.declared.check.Verdict.{Verdict}
-use Rattle.capsule_tool.specs.declared.check.Verdict.TheVariants.{Whole as WholeCapsule, Refused, Later}
+use Rattle.capsule_tool.specs.declared.check.Verdict.TheVariants.{Whole as WholeCapsule, Refused, Trailing}
 use Rattle.capsule_tool.specs.declared.form.Form.{Form}
 use Rattle.capsule_tool.specs.declared.form.Form.TheVariants.{Check, Show, Rebuild, Make, Play, Load}
 use Rattle.capsule_tool.specs.declared.input.Reading.{Reading}
@@ -23,14 +23,14 @@ abbrev pub word : List (List ℕ) → ℕ → List ℕ
 word words k = slice_index_or words k []
 
 -- what is found of the bytes of a file
-abbrev pub verdict_answer : List ℕ → Verdict → Answer
-verdict_answer name (WholeCapsule length) = done length
-verdict_answer name (Refused at why) = refused at why
-verdict_answer name Later = later name
+abbrev pub verdict_answer : Verdict → Answer
+verdict_answer (WholeCapsule length) = done length
+verdict_answer (Refused refusal) = refused refusal.at (name_of refusal.why)
+verdict_answer (Trailing at) = refused at (codes "Trailing")
 
 -- what `check` finds, by what came of reading its file
 abbrev pub check_answer : List ℕ → Reading → Answer
-check_answer name (Whole bytes) = verdict_answer name (verdict_of bytes)
+check_answer name (Whole bytes) = verdict_answer (verdict_of bytes)
 check_answer name Unread = unread name
 check_answer name Long = long name
 

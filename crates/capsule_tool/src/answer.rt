@@ -1,16 +1,15 @@
 ghost use Rattle.std.specs.Prelude.{◌≡◌, IfOk};
-ghost use Rattle.capsule_tool.specs.Answers.{usage, done, refused, refused_as, later, unread, long};
+ghost use Rattle.capsule_tool.specs.Answers.{usage, done, refused, later, unread, long};
 
-use crate::check::Why;
 use crate::status::Status;
-use cu_base::{NoMemory, Text};
+use cu_base::{Blob, NoMemory};
 use std::alloc::Global;
 
 /// What a run has found, before any of it is written.
 #[derive(Drop)]
 pub struct Answer {
     pub status: Status,
-    pub text: Text,
+    pub text: Blob,
 }
 
 const USAGE: &str =
@@ -23,12 +22,12 @@ impl Answer {
     {
         Ok(Answer {
             status: Status::Usage,
-            text: Text::from_str(alloc, USAGE)?,
+            text: Blob::from_slice(alloc, USAGE.as_bytes())?,
         })
     }
 
     /// The whole input is one capsule of this many bytes.
-    pub fn done(alloc: Global, length: u32) -> Result<Answer, NoMemory>
+    pub fn done(alloc: Global, length: usize) -> Result<Answer, NoMemory>
         ensures { IfOk result (λ answer. answer ≡ done length) }
     {
         match format!(in alloc; "ok {length}\n") {
@@ -37,15 +36,9 @@ impl Answer {
         }
     }
 
-    /// The bytes are refused at a place.
-    pub fn refused(alloc: Global, at: u32, why: Why) -> Result<Answer, NoMemory>
-        ensures { IfOk result (λ answer. answer ≡ refused at why) }
-    {
-        Answer::refused_as(alloc, at, why.name())
-    }
-
-    fn refused_as(alloc: Global, at: u32, why: &str) -> Result<Answer, NoMemory>
-        ensures { IfOk result (λ answer. answer ≡ refused_as at why.now) }
+    /// The bytes are refused at a place, for a cause of this name.
+    pub fn refused(alloc: Global, at: usize, why: &str) -> Result<Answer, NoMemory>
+        ensures { IfOk result (λ answer. answer ≡ refused at why.now) }
     {
         match format!(in alloc; "refused {at} {why}\n") {
             Ok(text) => Answer::new(alloc, Status::Refused, text.as_str()),
@@ -88,7 +81,7 @@ impl Answer {
     {
         Ok(Answer {
             status,
-            text: Text::from_str(alloc, text)?,
+            text: Blob::from_slice(alloc, text.as_bytes())?,
         })
     }
 }

@@ -1,62 +1,48 @@
-ghost use Rattle.std.specs.Prelude.{◌≡◌, ◌<◌, ◌^◌, length, IfOk};
-ghost use Rattle.capsule_tool.specs.Answers.{name_of};
-ghost use Rattle.capsule_tool.specs.Check.{verdict_of};
+ghost use Rattle.std.specs.Prelude.{◌≡◌};
+ghost use Rattle.capsule_tool.specs.Check.{verdict_of, name_of};
 
-use cu_base::Guid;
-use fmp_headers::{CapsuleHeader, FMP_CAPSULE_GUID, HeaderFault};
-
-/// Why the bytes of a file are refused.
-#[derive(Clone, Copy, Debug, PartialEq, Eq)]
-pub enum Why {
-    Short,
-    BadHeaderSize,
-    BadImageSize,
-    Trailing,
-}
-
-impl Why {
-    /// The name that is printed.
-    pub fn name(self) -> &'static str
-        ensures { result.now ≡ name_of self }
-    {
-        match self {
-            Why::Short => "Short",
-            Why::BadHeaderSize => "BadHeaderSize",
-            Why::BadImageSize => "BadImageSize",
-            Why::Trailing => "Trailing",
-        }
-    }
-}
+use capsule_grammar::{Refusal, Why};
 
 /// What checking the bytes of a file finds.
 #[derive(Clone, Copy, Debug, PartialEq, Eq)]
 pub enum Verdict {
     /// They are one capsule of this many bytes.
-    Whole(u32),
-    /// They are refused at a place.
-    Refused(u32, Why),
-    /// They begin as an FMP capsule.
-    Later,
+    Whole(usize),
+    /// They are refused as a capsule.
+    Refused(Refusal),
+    /// Bytes follow the capsule, from this place on.
+    Trailing(usize),
 }
 
 /// Whether the bytes are one capsule and no more.
 pub fn judge(bytes: &[u8]) -> Verdict
     ensures { result ≡ verdict_of bytes.now }
 {
-    match CapsuleHeader::read(bytes) {
-        Err(HeaderFault::Short) => Verdict::Refused(0, Why::Short),
-        Err(HeaderFault::BadHeaderSize) => Verdict::Refused(16, Why::BadHeaderSize),
-        Err(_) => Verdict::Refused(24, Why::BadImageSize),
-        Ok(header) => {
-            if header.image_size as usize > bytes.len() {
-                Verdict::Refused(24, Why::BadImageSize)
-            } else if header.guid == FMP_CAPSULE_GUID {
-                Verdict::Later
-            } else if (header.image_size as usize) < bytes.len() {
-                Verdict::Refused(header.image_size, Why::Trailing)
+    match capsule_grammar::check(bytes) {
+        Ok(length) => {
+            if length < bytes.len() {
+                Verdict::Trailing(length)
             } else {
-                Verdict::Whole(header.image_size)
+                Verdict::Whole(length)
             }
         }
+        Err(refusal) => Verdict::Refused(refusal),
+    }
+}
+
+/// The name of a cause as it is printed.
+pub fn printed(why: Why) -> &'static str
+    ensures { result.now ≡ name_of why }
+{
+    match why {
+        Why::Short => "Short",
+        Why::BadHeaderSize => "BadHeaderSize",
+        Why::BadImageSize => "BadImageSize",
+        Why::BadFmpVersion => "BadFmpVersion",
+        Why::BadImageVersion => "BadImageVersion",
+        Why::OffsetsOutside => "OffsetsOutside",
+        Why::OffsetsNotRising => "OffsetsNotRising",
+        Why::ImageOutside => "ImageOutside",
+        Why::TooManyCapsules => "TooManyCapsules",
     }
 }

@@ -8,7 +8,7 @@ ghost use Rattle.capsule_tool.specs.Told.{MayFind, Writes, names_of, verdict_ans
 ghost use Rattle.capsule_tool.specs.Runs.{AnswersAsTold, Judges, IsUsage, IsUnread, IsLong, IsLater, IsStatus, WritesFront, IsAsked};
 
 use crate::answer::Answer;
-use crate::check::{Verdict, judge};
+use crate::check::{Verdict, judge, printed};
 use crate::form::{Form, form_of_words};
 use crate::input::{Reading, read_input};
 use crate::status::Status;
@@ -57,20 +57,22 @@ fn found_by(alloc: Global, name: &str, reading: &Reading) -> Result<Answer, NoMe
     ensures { IfOk result (λ answer. answer ≡ check_answer name.now reading.now) }
 {
     match reading {
-        Reading::Whole(bytes) => check_bytes(alloc, name, bytes.as_slice()),
+        Reading::Whole(bytes) => check_bytes(alloc, bytes.as_slice()),
         Reading::Unread => Answer::unread(alloc, name),
         Reading::Long => Answer::long(alloc, name),
     }
 }
 
 /// What checking the bytes of a file finds.
-fn check_bytes(alloc: Global, name: &str, bytes: &[u8]) -> Result<Answer, NoMemory>
-    ensures { IfOk result (λ answer. answer ≡ verdict_answer name.now (verdict_of bytes.now)) }
+fn check_bytes(alloc: Global, bytes: &[u8]) -> Result<Answer, NoMemory>
+    ensures { IfOk result (λ answer. answer ≡ verdict_answer (verdict_of bytes.now)) }
 {
     match judge(bytes) {
         Verdict::Whole(length) => Answer::done(alloc, length),
-        Verdict::Refused(at, why) => Answer::refused(alloc, at, why),
-        Verdict::Later => Answer::later(alloc, name),
+        Verdict::Refused(refusal) => {
+            Answer::refused(alloc, refusal.at as usize, printed(refusal.why))
+        }
+        Verdict::Trailing(at) => Answer::refused(alloc, at, "Trailing"),
     }
 }
 
@@ -79,7 +81,7 @@ fn say<O: Sink>(out: &mut O, answer: &Answer) -> Outcome
     ensures counts { O.faults out.old ≤ O.faults out.new }
     ensures written { Writes answer.now result.status (O.written out.old) (O.written out.new) (O.faults out.old) (O.faults out.new) }
 {
-    let status = match write_whole(out, answer.text.as_str().as_bytes()) {
+    let status = match write_whole(out, answer.text.as_slice()) {
         Ok(()) => answer.status,
         Err(WriteFault::Write) => Status::Unwritten,
         Err(WriteFault::Memory) => Status::Memory,
@@ -107,7 +109,7 @@ pub fn run<I: Inputs, O: Sink>(
     ensures unread { result.status ≡ 4 → IsUnread (form_of words.now) words.now (I.named inputs.old) (I.faults inputs.old) (I.faults inputs.new) (O.written out.old) (O.written out.new) }
     ensures unwritten { result.status ≡ 5 → Rose (O.faults out.old) (O.faults out.new) }
     ensures long { result.status ≡ 7 → IsLong (form_of words.now) words.now (I.named inputs.old) (I.taken inputs.old) (I.taken inputs.new) (O.written out.old) (O.written out.new) }
-    ensures later { result.status ≡ 8 → IsLater (form_of words.now) words.now (I.named inputs.old) (O.written out.old) (O.written out.new) }
+    ensures later { result.status ≡ 8 → IsLater (form_of words.now) words.now (O.written out.old) (O.written out.new) }
     ensures other { IsStatus result.status }
 
     // What is written is a prefix of what may be found, or nothing where memory ran out first.

@@ -133,6 +133,63 @@ fn checks_the_header_size(rt: HostRuntime) -> Result<(), Fail> {
     Ok(())
 }
 
+/// HeaderSize, flags 0x00050000 and CapsuleImageSize.
+fn sizes(header_size: u8, image_size: u8) -> [u8; 12] {
+    [header_size, 0, 0, 0, 0, 0, 5, 0, image_size, 0, 0, 0]
+}
+
+/// An FMP header of version 1, no drivers and this many payload items.
+fn fmp_header(items: u8) -> [u8; 8] {
+    [1, 0, 0, 0, 0, 0, items, 0]
+}
+
+/// The front of an image header: its version, zeros, and UpdateImageSize.
+fn image_header(version: u8, image_size: u8) -> [u8; 32] {
+    let mut bytes = [0u8; 32];
+    bytes[0] = version;
+    bytes[24] = image_size;
+    bytes
+}
+
+#[test]
+fn checks_the_offset_list(rt: HostRuntime) -> Result<(), Fail> {
+    let no_items: [&[u8]; 3] = [&FMP, &sizes(0x1c, 0x24), &fmp_header(0)];
+    expect(&rt, &["check", "a.cap"], &input(&no_items), 0, "ok 36\n")?;
+    let with_ext: [&[u8]; 4] = [&FMP, &sizes(0x20, 0x28), &[0; 4], &fmp_header(0)];
+    expect(&rt, &["check", "a.cap"], &input(&with_ext), 0, "ok 40\n")?;
+    let equal: [&[u8]; 6] = [&FMP, &sizes(0x1c, 0x54), &fmp_header(2), &[24, 0, 0, 0, 0, 0, 0, 0], &[24, 0, 0, 0, 0, 0, 0, 0], &[0; 32]];
+    expect(&rt, &["check", "a.cap"], &input(&equal), 1, "refused 44 OffsetsNotRising\n")?;
+    let cut: [&[u8]; 2] = [&FMP, &REST];
+    expect(&rt, &["check", "a.cap"], &input(&cut), 1, "refused 28 Short\n")?;
+    Ok(())
+}
+
+const AT_16: [u8; 8] = [16, 0, 0, 0, 0, 0, 0, 0];
+
+const AT_18: [u8; 8] = [18, 0, 0, 0, 0, 0, 0, 0];
+
+#[test]
+fn checks_one_image_of_each_version(rt: HostRuntime) -> Result<(), Fail> {
+    let first: [&[u8]; 5] = [&FMP, &sizes(0x1c, 76), &fmp_header(1), &AT_16, &image_header(1, 0)];
+    expect(&rt, &["check", "a.cap"], &input(&first), 0, "ok 76\n")?;
+    let second: [&[u8]; 6] = [&FMP, &sizes(0x1c, 84), &fmp_header(1), &AT_16, &image_header(2, 0), &[0; 8]];
+    expect(&rt, &["check", "a.cap"], &input(&second), 0, "ok 84\n")?;
+    let third: [&[u8]; 6] = [&FMP, &sizes(0x1c, 92), &fmp_header(1), &AT_16, &image_header(3, 0), &[0; 16]];
+    expect(&rt, &["check", "a.cap"], &input(&third), 0, "ok 92\n")?;
+    let fourth: [&[u8]; 6] = [&FMP, &sizes(0x1c, 92), &fmp_header(1), &AT_16, &image_header(4, 0), &[0; 16]];
+    expect(&rt, &["check", "a.cap"], &input(&fourth), 1, "refused 44 BadImageVersion\n")?;
+    let outside: [&[u8]; 6] = [&FMP, &sizes(0x1c, 92), &fmp_header(1), &AT_16, &image_header(3, 1), &[0; 16]];
+    expect(&rt, &["check", "a.cap"], &input(&outside), 1, "refused 68 ImageOutside\n")?;
+    Ok(())
+}
+
+#[test]
+fn checks_a_lead_and_a_pad(rt: HostRuntime) -> Result<(), Fail> {
+    let padded: [&[u8]; 7] = [&FMP, &sizes(0x1c, 81), &fmp_header(1), &AT_18, &[7, 7], &image_header(1, 0), &[9, 9, 9]];
+    expect(&rt, &["check", "a.cap"], &input(&padded), 0, "ok 81\n")?;
+    Ok(())
+}
+
 #[test]
 fn answers_words_of_no_form(rt: HostRuntime) -> Result<(), Fail> {
     let usage =
@@ -150,13 +207,6 @@ fn answers_words_of_no_form(rt: HostRuntime) -> Result<(), Fail> {
 
 #[test]
 fn answers_what_is_built_later(rt: HostRuntime) -> Result<(), Fail> {
-    expect(
-        &rt,
-        &["check", "a.cap"],
-        &input(&[&FMP, &REST]),
-        8,
-        "later a.cap\n",
-    )?;
     expect(&rt, &["show", "a.cap"], &input(&[]), 8, "later show\n")?;
     expect(
         &rt,
