@@ -3,3 +3,5 @@ pub mod Going
 pub mod Keeping
 pub mod Lists
 pub mod Reached
+pub mod ScriptLemmas
+pub mod ScriptNames
