@@ -7,3 +7,5 @@ pub mod Lists
 pub mod Once
 pub mod Reached
 pub mod SampleTexts
+pub mod ScriptLemmas
+pub mod ScriptNames
