@@ -9,3 +9,4 @@ pub mod Reached
 pub mod SampleTexts
 pub mod ScriptLemmas
 pub mod ScriptNames
+pub mod TextLemmas
