@@ -11,7 +11,7 @@ use Rattle.capsule_tool.specs.Answers.{usage, later, unread, long}
 use Rattle.capsule_tool.specs.Check.{verdict_of}
 use Rattle.capsule_tool.specs.Forms.{form_of}
 use Rattle.capsule_tool.specs.Readings.{IsReading, MayHold, MayPassLimit}
-use Rattle.capsule_tool.specs.Runs.{AnswersAsTold, IsUsage, IsUnread, IsLong, Judges}
+use Rattle.capsule_tool.specs.Runs.{AnswersAsTold, IsUsage, IsUnread, IsLong, IsLater, Judges}
 use Rattle.capsule_tool.specs.Statuses.{code_of}
 use Rattle.capsule_tool.specs.Told.{word, told_of, verdict_answer, check_answer, reading_of, MayFind, Writes}
 use Rattle.capsule_tool.specs.declared.answer.Answer.{Answer}
@@ -200,3 +200,24 @@ unwritten_run form words named f f' t t' answer status w w' g g' found (inl (sam
     absurd (unwritten_found form words named f f' t t' answer found (sym same ∙ is))
 unwritten_run form words named f f' t t' answer status w w' g g' found (inr (inl (same, rose, front))) is = rose
 unwritten_run form words named f f' t t' answer status w w' g g' found (inr (inr (same, front))) is = absurd (omega (arith, same, is))
+
+-- 8 comes where the words have another form than `check FILE`
+pub later_found : (form : Option Form) (words : List (List ℕ)) (named : Option Named) (faults faults' taken taken' : ℕ) (answer : Answer)
+    → MayFind form named words faults faults' taken taken' answer → code_of answer.status ≡ 8 → (form ≢ None) × (form ≢ Some Check) × (answer ≡ later (word words 0))
+later_found None words named f f' t t' answer found is = absurd (omega (arith, code_at _ _ found, is))
+later_found (Some Check) words named f f' t t' answer (Whole bytes, is_reading, same) is =
+    absurd (omega (arith, verdict_code (verdict_of bytes), sym (code_at _ _ same) ∙ is))
+later_found (Some Check) words named f f' t t' answer (Unread, is_reading, same) is = absurd (omega (arith, code_at _ _ same, is))
+later_found (Some Check) words named f f' t t' answer (Long, is_reading, same) is = absurd (omega (arith, code_at _ _ same, is))
+later_found (Some Show) words named f f' t t' answer found is = ((λ h. cc), (λ h. cc), found)
+later_found (Some Rebuild) words named f f' t t' answer found is = ((λ h. cc), (λ h. cc), found)
+later_found (Some Make) words named f f' t t' answer found is = ((λ h. cc), (λ h. cc), found)
+later_found (Some Play) words named f f' t t' answer found is = ((λ h. cc), (λ h. cc), found)
+later_found (Some Load) words named f f' t t' answer found is = ((λ h. cc), (λ h. cc), found)
+
+pub later_run : (form : Option Form) (words : List (List ℕ)) (named : Option Named) (faults faults' taken taken' : ℕ) (answer : Answer) (status : ℕ) (w w' : Option (List ℕ)) (g g' : ℕ)
+    → MayFind form named words faults faults' taken taken' answer → Writes answer status w w' g g' → status ≡ 8 → IsLater form words w w'
+later_run form words named f f' t t' answer status w w' g g' found writes is =
+    let (code, appends) = written answer status 8 w w' g g' writes is (omega arith) (omega arith) in
+    let (form_is, not_check, same) = later_found form words named f f' t t' answer found code in
+    (form_is, not_check, rw (sym (ap (λ (x : Answer). x.text) same)) appends)

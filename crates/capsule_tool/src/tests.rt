@@ -157,10 +157,29 @@ fn checks_the_offset_list(rt: HostRuntime) -> Result<(), Fail> {
     expect(&rt, &["check", "a.cap"], &input(&no_items), 0, "ok 36\n")?;
     let with_ext: [&[u8]; 4] = [&FMP, &sizes(0x20, 0x28), &[0; 4], &fmp_header(0)];
     expect(&rt, &["check", "a.cap"], &input(&with_ext), 0, "ok 40\n")?;
-    let equal: [&[u8]; 6] = [&FMP, &sizes(0x1c, 0x54), &fmp_header(2), &[24, 0, 0, 0, 0, 0, 0, 0], &[24, 0, 0, 0, 0, 0, 0, 0], &[0; 32]];
-    expect(&rt, &["check", "a.cap"], &input(&equal), 1, "refused 44 OffsetsNotRising\n")?;
+    let equal: [&[u8]; 6] = [
+        &FMP,
+        &sizes(0x1c, 0x54),
+        &fmp_header(2),
+        &[24, 0, 0, 0, 0, 0, 0, 0],
+        &[24, 0, 0, 0, 0, 0, 0, 0],
+        &[0; 32],
+    ];
+    expect(
+        &rt,
+        &["check", "a.cap"],
+        &input(&equal),
+        1,
+        "refused 44 OffsetsNotRising\n",
+    )?;
     let cut: [&[u8]; 2] = [&FMP, &REST];
-    expect(&rt, &["check", "a.cap"], &input(&cut), 1, "refused 28 Short\n")?;
+    expect(
+        &rt,
+        &["check", "a.cap"],
+        &input(&cut),
+        1,
+        "refused 28 Short\n",
+    )?;
     Ok(())
 }
 
@@ -170,22 +189,76 @@ const AT_18: [u8; 8] = [18, 0, 0, 0, 0, 0, 0, 0];
 
 #[test]
 fn checks_one_image_of_each_version(rt: HostRuntime) -> Result<(), Fail> {
-    let first: [&[u8]; 5] = [&FMP, &sizes(0x1c, 76), &fmp_header(1), &AT_16, &image_header(1, 0)];
+    let first: [&[u8]; 5] = [
+        &FMP,
+        &sizes(0x1c, 76),
+        &fmp_header(1),
+        &AT_16,
+        &image_header(1, 0),
+    ];
     expect(&rt, &["check", "a.cap"], &input(&first), 0, "ok 76\n")?;
-    let second: [&[u8]; 6] = [&FMP, &sizes(0x1c, 84), &fmp_header(1), &AT_16, &image_header(2, 0), &[0; 8]];
+    let second: [&[u8]; 6] = [
+        &FMP,
+        &sizes(0x1c, 84),
+        &fmp_header(1),
+        &AT_16,
+        &image_header(2, 0),
+        &[0; 8],
+    ];
     expect(&rt, &["check", "a.cap"], &input(&second), 0, "ok 84\n")?;
-    let third: [&[u8]; 6] = [&FMP, &sizes(0x1c, 92), &fmp_header(1), &AT_16, &image_header(3, 0), &[0; 16]];
+    let third: [&[u8]; 6] = [
+        &FMP,
+        &sizes(0x1c, 92),
+        &fmp_header(1),
+        &AT_16,
+        &image_header(3, 0),
+        &[0; 16],
+    ];
     expect(&rt, &["check", "a.cap"], &input(&third), 0, "ok 92\n")?;
-    let fourth: [&[u8]; 6] = [&FMP, &sizes(0x1c, 92), &fmp_header(1), &AT_16, &image_header(4, 0), &[0; 16]];
-    expect(&rt, &["check", "a.cap"], &input(&fourth), 1, "refused 44 BadImageVersion\n")?;
-    let outside: [&[u8]; 6] = [&FMP, &sizes(0x1c, 92), &fmp_header(1), &AT_16, &image_header(3, 1), &[0; 16]];
-    expect(&rt, &["check", "a.cap"], &input(&outside), 1, "refused 68 ImageOutside\n")?;
+    let fourth: [&[u8]; 6] = [
+        &FMP,
+        &sizes(0x1c, 92),
+        &fmp_header(1),
+        &AT_16,
+        &image_header(4, 0),
+        &[0; 16],
+    ];
+    expect(
+        &rt,
+        &["check", "a.cap"],
+        &input(&fourth),
+        1,
+        "refused 44 BadImageVersion\n",
+    )?;
+    let outside: [&[u8]; 6] = [
+        &FMP,
+        &sizes(0x1c, 92),
+        &fmp_header(1),
+        &AT_16,
+        &image_header(3, 1),
+        &[0; 16],
+    ];
+    expect(
+        &rt,
+        &["check", "a.cap"],
+        &input(&outside),
+        1,
+        "refused 68 ImageOutside\n",
+    )?;
     Ok(())
 }
 
 #[test]
 fn checks_a_lead_and_a_pad(rt: HostRuntime) -> Result<(), Fail> {
-    let padded: [&[u8]; 7] = [&FMP, &sizes(0x1c, 81), &fmp_header(1), &AT_18, &[7, 7], &image_header(1, 0), &[9, 9, 9]];
+    let padded: [&[u8]; 7] = [
+        &FMP,
+        &sizes(0x1c, 81),
+        &fmp_header(1),
+        &AT_18,
+        &[7, 7],
+        &image_header(1, 0),
+        &[9, 9, 9],
+    ];
     expect(&rt, &["check", "a.cap"], &input(&padded), 0, "ok 81\n")?;
     Ok(())
 }

@@ -1,5 +1,5 @@
 use Rattle.std.proofs.Common.{arith}
-use Rattle.capsule_tool.proofs.RunLaws.{as_told, usage_run, unread_run, long_run, judged_run, unwritten_run}
+use Rattle.capsule_tool.proofs.RunLaws.{as_told, usage_run, unread_run, long_run, judged_run, unwritten_run, later_run}
 use Rattle.capsule_tool.proofs.program.run.Goals as goal
 
 pub returns-in-Ok-clause-exact : goal.returns-in-Ok-clause-exact
@@ -22,3 +22,6 @@ returns-in-Ok-clause-unwritten g c = λ is. unwritten_run _ _ _ _ _ _ _ _ _ _ _ 
 
 pub returns-in-Ok-clause-long : goal.returns-in-Ok-clause-long
 returns-in-Ok-clause-long g c = λ is. long_run _ _ _ _ _ _ _ _ _ _ _ _ _ c.in-Ok.ensures.found c.say.ensures.written is
+
+pub returns-in-Ok-clause-later : goal.returns-in-Ok-clause-later
+returns-in-Ok-clause-later g c = λ is. later_run _ _ _ _ _ _ _ _ _ _ _ _ _ c.in-Ok.ensures.found c.say.ensures.written is
