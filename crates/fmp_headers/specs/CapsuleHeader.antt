@@ -1,7 +1,7 @@
 -- The capsule header, EFI_CAPSULE_HEADER (UEFI 2.10, 8.5.3): CapsuleGuid in 16 bytes, then HeaderSize, Flags
 -- and CapsuleImageSize in 4 bytes each. CapsuleImageSize counts the header.
-use Rattle.std.specs.Prelude.{ℕ, Bool, ◌||◌, List, [], ◌∷◌, length, nat_lt, Option, None, Some, Result, Ok, Err}
-use Rattle.cu_base.specs.Fields.{field, number_at}
+use Rattle.std.specs.Prelude.{◌≡◌, ℕ, ◌^◌, ◌<◌, ◌≤◌, Bool, ◌||◌, List, [], ◌∷◌, ◌++◌, length, nat_lt, Option, None, Some, Result, Ok, Err}
+use Rattle.cu_base.specs.Fields.{field, number_at, bytes_of}
 use Rattle.cu_base.specs.Refusals.{Row, row, first_refusal}
 use Rattle.cu_base.specs.declared.limits.TheConstants.{MAX_CAPSULE_BYTES}
 use Rattle.fmp_headers.specs.declared.capsule.CapsuleHeader.{CapsuleHeader}
@@ -50,3 +50,16 @@ header_or (Some refusal) header = Err refusal.1
 -- the header, or the cause of the first row that holds
 abbrev pub capsule_header : List ℕ → Result CapsuleHeader HeaderFault
 capsule_header bytes = header_or (first_refusal (capsule_header_rows bytes)) (capsule_header_fields bytes)
+
+-- the layout of a header
+abbrev pub capsule_header_bytes : CapsuleHeader → List ℕ
+capsule_header_bytes h =
+    h.guid.bytes ++ bytes_of 4 h.header_size ++ bytes_of 4 h.flags ++ bytes_of 4 h.image_size
+
+-- each field has its width, and HeaderSize and CapsuleImageSize are not refused
+pub record IsCapsuleHeader (h : CapsuleHeader) : Type 0 where
+  pub guid : length h.guid.bytes ≡ 16
+  pub flags : h.flags < 2 ^ 32
+  pub header_size : 28 ≤ h.header_size
+  pub within : h.header_size ≤ h.image_size
+  pub image_size : h.image_size ≤ MAX_CAPSULE_BYTES

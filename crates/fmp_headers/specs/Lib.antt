@@ -1,1 +1,4 @@
+pub mod Bytes
 pub mod CapsuleHeader
+pub mod FmpHeader
+pub mod ImageHeader

@@ -1,8 +1,10 @@
-ghost use Rattle.std.specs.Prelude.{◌≡◌};
-ghost use Rattle.fmp_headers.specs.CapsuleHeader.{capsule_header};
+ghost use Rattle.std.specs.Prelude.{◌≡◌, ◌++◌, OnOk, OnErr};
+ghost use Rattle.fmp_headers.specs.CapsuleHeader.{capsule_header, capsule_header_bytes};
 
 use crate::HeaderFault;
-use cu_base::{Guid, MAX_CAPSULE_BYTES, read_u32};
+use crate::layout::{bytes_of_u32, put};
+use crate::places::{guid_at, u32_at};
+use cu_base::{Blob, Guid, MAX_CAPSULE_BYTES, NoMemory};
 
 /// The bytes of the fields of a capsule header. HeaderSize is at least this.
 pub const CAPSULE_HEADER_BYTES: u32 = 28;
@@ -26,10 +28,8 @@ impl CapsuleHeader {
         if bytes.len() < CAPSULE_HEADER_BYTES as usize {
             return Err(HeaderFault::Short);
         }
-        let guid = Guid::read(bytes).ok_or(HeaderFault::Short)?;
-        let header_size = read_u32(&bytes[16..]).ok_or(HeaderFault::Short)?;
-        let flags = read_u32(&bytes[20..]).ok_or(HeaderFault::Short)?;
-        let image_size = read_u32(&bytes[24..]).ok_or(HeaderFault::Short)?;
+        let header_size = u32_at(bytes, 16);
+        let image_size = u32_at(bytes, 24);
         if header_size < CAPSULE_HEADER_BYTES || image_size < header_size {
             return Err(HeaderFault::BadHeaderSize);
         }
@@ -37,10 +37,30 @@ impl CapsuleHeader {
             return Err(HeaderFault::BadImageSize);
         }
         Ok(CapsuleHeader {
-            guid,
+            guid: guid_at(bytes, 0),
             header_size,
-            flags,
+            flags: u32_at(bytes, 20),
             image_size,
         })
+    }
+
+    /// Appends the header.
+    pub fn write_into(&self, out: &mut Blob) -> Result<(), NoMemory>
+        ensures ok { OnOk result (out.new ≡ out.old ++ capsule_header_bytes self.now) }
+        ensures err { OnErr result (out.new ≡ out.old) }
+    {
+        out.push_slice(&self.to_bytes())?;
+        Ok(())
+    }
+
+    fn to_bytes(&self) -> [u8; 28]
+        ensures { result ≡ capsule_header_bytes self.now }
+    {
+        let mut bytes = [0; 28];
+        put(&mut bytes, 0, &self.guid.bytes);
+        put(&mut bytes, 16, &bytes_of_u32(self.header_size));
+        put(&mut bytes, 20, &bytes_of_u32(self.flags));
+        put(&mut bytes, 24, &bytes_of_u32(self.image_size));
+        bytes
     }
 }

@@ -1,10 +1,14 @@
 -- The laws of every machine that is reached.
-use Rattle.std.proofs.Common.{inl, inr, sym, subst}
-use Rattle.reset_play.specs.Board.{Board}
+use Rattle.std.proofs.Common.{◌≡◌, inl, inr, List, refl, sym, subst}
+use Rattle.bench_model.specs.Boards.{BoardValue}
 use Rattle.reset_play.specs.Boots.{boot_at}
 use Rattle.reset_play.specs.Formats.{Formats}
-use Rattle.reset_play.specs.Laws.{IsReached, OpenIsLast, AttemptsReachFloor}
+use Rattle.reset_play.specs.Laws.{IsReached, OpenIsLast, AttemptsReachFloor, AreApart, TellNoFault}
+use Rattle.reset_play.specs.Events.{Act, Run, trace_of, machine_after}
+use Rattle.reset_play.specs.Told.{Said}
 use Rattle.reset_play.specs.Machine.{Machine, fresh}
+use Rattle.reset_play.proofs.Apart.{apart_keeps, boot_apart}
+use Rattle.reset_play.proofs.Once.{Quiet, run_once, run_is}
 use Rattle.reset_play.proofs.Going.{Sound, sound_of, boot_going}
 use Rattle.reset_play.proofs.Keeping.{Keeps, run_keeps}
 use Rattle.reset_play.proofs.Lists.{rests_last, pends_last, reach_floor}
@@ -22,7 +26,7 @@ sound_keeps f = record {
   boots = λ m h j held p. sound_of (boot_at f m h j).machine (boot_at f m h j).left (boot_going f m h j held p);
 }
 
-pub reached_sound : (f : Formats) (board : Board) (m : Machine) → IsReached f board m → Sound m
+pub reached_sound : (f : Formats) (board : BoardValue) (m : Machine) → IsReached f board m → Sound m
 reached_sound f board m r =
     let start : Sound (fresh board) = inl (record { none = tt; above = tt }) in
     let between : Sound r.between = run_keeps f Sound (sound_keeps f) (fresh board) r.acts r.told r.between start r.run in
@@ -36,8 +40,24 @@ floor_of_attempts : (m : Machine) → Sound m → AttemptsReachFloor m.board m.l
 floor_of_attempts m (inl r) = reach_floor m.board m.list r.above
 floor_of_attempts m (inr p) = reach_floor m.board m.list p.above
 
-pub open_last : (f : Formats) (board : Board) (m : Machine) → IsReached f board m → OpenIsLast m.list
+pub open_last : (f : Formats) (board : BoardValue) (m : Machine) → IsReached f board m → OpenIsLast m.list
 open_last f board m r = last_of m (reached_sound f board m r)
 
-pub attempts : (f : Formats) (board : Board) (m : Machine) → IsReached f board m → AttemptsReachFloor m.board m.list
+pub attempts : (f : Formats) (board : BoardValue) (m : Machine) → IsReached f board m → AttemptsReachFloor m.board m.list
 attempts f board m r = floor_of_attempts m (reached_sound f board m r)
+
+pub apart : (f : Formats) (board : BoardValue) (m : Machine) → IsReached f board m → AreApart m
+apart f board m r =
+    let start : AreApart (fresh board) = record { names = tt; files = tt; last_file = tt; staged = tt; last_staged = tt } in
+    let between : AreApart r.between = run_keeps f AreApart (apart_keeps f) (fresh board) r.acts r.told r.between start r.run in
+    subst AreApart (sym r.reached) (boot_apart f r.between r.end r.steps between)
+
+-- a fresh board is quiet
+pub fresh_quiet : (board : BoardValue) → Quiet (fresh board)
+fresh_quiet board = record { rests = record { none = tt; above = tt }; well = refl }
+
+pub one : (f : Formats) (board : BoardValue) (acts : List Act) (told : List Said) (m : Machine) → Run f (fresh board) acts told m → TellNoFault told → (told ≡ trace_of f (fresh board) acts) × (m ≡ machine_after f (fresh board) acts)
+one f board acts told m r h = run_once f (fresh board) acts told m (fresh_quiet board) r h
+
+pub some : (f : Formats) (board : BoardValue) (acts : List Act) → Run f (fresh board) acts (trace_of f (fresh board) acts) (machine_after f (fresh board) acts)
+some f board acts = run_is f (fresh board) acts

@@ -5,7 +5,8 @@ use Rattle.cu_base.specs.declared.guid.Guid.{Guid}
 use Rattle.reset_play.specs.declared.unit.Kind.{Kind}
 use Rattle.reset_play.specs.declared.unit.Kind.TheVariants.{Try, Skip, NoTarget, Bad}
 use Rattle.reset_play.specs.declared.unit.UnitKey.{UnitKey}
-use Rattle.reset_play.specs.Board.{Board, Device}
+use Rattle.bench_model.specs.Boards.{BoardValue}
+use Rattle.bench_model.specs.Devices.{DeviceValue}
 use Rattle.reset_play.specs.Formats.{ItemHead, Item, Capsule, Formats}
 
 -- a list of bytes with its route (0 is memory, 1 is disk), its serial and its file's name, which is empty for memory.
@@ -44,12 +45,12 @@ is_passed_over c = not (is_same_guid c.guid fmp_guid) || not (c.drivers == 0) ||
 
 -- whether a device is a target: the same type and index and, unless the item's instance is 0 or its header has
 -- version 1, the same instance
-abbrev pub is_target : ItemHead → Device → Bool
+abbrev pub is_target : ItemHead → DeviceValue → Bool
 is_target h d = is_same_guid h.type_id d.type_id && h.index == d.index
     && (h.instance == 0 || h.version == 1 || h.instance == d.instance)
 
 -- the numbers of the targets of an item, in board order
-abbrev pub targets : ItemHead → Board → List ℕ
+abbrev pub targets : ItemHead → BoardValue → List ℕ
 targets h board = map (λ p. p.0) (filter (λ p. is_target h p.1) (enumerate_from 0 board.devices))
 
 -- the key of a unit, as the first of its delivery
@@ -62,7 +63,7 @@ key_of d capsule item device = record {
 }
 
 -- the units of an item: one try for each target, or that it has none
-abbrev pub item_units : Delivery → Board → ℕ → Capsule → ℕ × Item → List BootUnit
+abbrev pub item_units : Delivery → BoardValue → ℕ → Capsule → ℕ × Item → List BootUnit
 item_units d board n c (k, item) = units_on (targets item.head board)
   where
     unit : Kind → ℕ → BootUnit
@@ -73,7 +74,7 @@ item_units d board n c (k, item) = units_on (targets item.head board)
     units_on (t ∷ ts) = map (unit Try) (t ∷ ts)
 
 -- the units of a capsule: one skip, or those of its items
-abbrev pub capsule_units : Delivery → Board → ℕ × Capsule → List BootUnit
+abbrev pub capsule_units : Delivery → BoardValue → ℕ × Capsule → List BootUnit
 capsule_units d board (n, c) =
     if is_passed_over c
     then record { kind = Skip; key = key_of d n 0 255; capsule = c.guid; head = no_head; image = [] } ∷ []
@@ -83,7 +84,7 @@ capsule_units d board (n, c) =
 abbrev pub bad_unit : Delivery → BootUnit
 bad_unit d = record { kind = Bad; key = key_of d 0 0 255; capsule = no_guid; head = no_head; image = [] }
 
-abbrev pub units_in : Delivery → Board → Option (List Capsule) → List BootUnit
+abbrev pub units_in : Delivery → BoardValue → Option (List Capsule) → List BootUnit
 units_in d board None = bad_unit d ∷ []
 units_in d board (Some capsules) = flat_map (capsule_units d board) (enumerate_from 0 capsules)
 
@@ -92,5 +93,5 @@ abbrev pub numbered : ℕ × BootUnit → BootUnit
 numbered (n, u) = record u { key = record u.key { unit = n } }
 
 -- the units of a delivery, in order
-abbrev pub units : Formats → Delivery → Board → List BootUnit
+abbrev pub units : Formats → Delivery → BoardValue → List BootUnit
 units f d board = map numbered (enumerate_from 0 (units_in d board (option_and_then f.capsules d.bytes)))

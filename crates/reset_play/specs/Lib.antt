@@ -1,4 +1,3 @@
-pub mod Board
 pub mod Boots
 pub mod Deliveries
 pub mod Events
@@ -14,7 +13,9 @@ pub mod ScriptEvents
 pub mod ScriptInputs
 pub mod ScriptText
 pub mod ScriptWords
+pub mod Samples
 pub mod Spent
+pub mod Texts
 pub mod Thin
 pub mod Told
 pub mod Verdicts
