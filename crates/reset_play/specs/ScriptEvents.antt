@@ -3,8 +3,8 @@ use Rattle.std.specs.Prelude.{ℕ, Bool, true, false, codes, if◌then◌else◌
 use Rattle.std.specs.Result.{result_ok}
 use Rattle.std.specs.Str.{bytes_eq}
 use Rattle.cu_base.specs.Times.{time_of_text}
-use Rattle.reset_play.specs.declared.choice.Choice.{Choice}
-use Rattle.reset_play.specs.declared.choice.Choice.TheVariants.{New, Old, Mix, Fill}
+use Rattle.bench_model.specs.declared.choice.Choice.{Choice}
+use Rattle.bench_model.specs.declared.choice.Choice.TheVariants.{New, Old, Mix, Fill}
 use Rattle.reset_play.specs.declared.event.Event.{Event}
 use Rattle.reset_play.specs.declared.event.Event.TheVariants as events
 use Rattle.reset_play.specs.declared.script.limits.TheConstants.{MAX_COUNT}

@@ -13,7 +13,8 @@ use super::names::{is_file_name, is_input_name, text_of};
 use super::numbers::{bytes_of_hex, hex_number, is_hex_bytes, number_within};
 use super::operands::{both_words, next_word, only_word};
 use super::parts::cut;
-use crate::{Choice, Event};
+use crate::Event;
+use bench_model::Choice;
 use cu_base::EfiTime;
 use std::alloc::Global;
 

@@ -1,6 +1,7 @@
 //! Scripts worked by hand: each event in form, each way to be refused, and the limits.
 
-use crate::{Choice, Event, ScriptFault, ScriptKind, read_script, script_inputs};
+use crate::{Event, ScriptFault, ScriptKind, read_script, script_inputs};
+use bench_model::Choice;
 use cu_base::{EfiTime, UNSPECIFIED_ZONE};
 use std::alloc::{AllocError, Global};
 use std::test::Fail;
