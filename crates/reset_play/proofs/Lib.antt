@@ -10,4 +10,6 @@ pub mod Once
 pub mod Ordered
 pub mod Reached
 pub mod SampleTexts
+pub mod ScriptLemmas
+pub mod ScriptNames
 pub mod TextLemmas

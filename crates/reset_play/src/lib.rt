@@ -8,6 +8,7 @@ mod event;
 mod laws;
 mod limits;
 mod report;
+mod script;
 mod snapshot;
 mod text;
 mod trace;
@@ -21,6 +22,10 @@ pub use laws::{
 };
 pub use limits::{MAX_FILES, MAX_MEMORY_BYTES, MAX_SEGMENTS, MAX_STAGED};
 pub use report::Report;
+pub use script::{
+    MAX_COUNT, MAX_EVENTS, MAX_FILE_NAME, MAX_INPUT_NAME, MAX_POKE_BYTES, ScriptFault, ScriptKind,
+    read_script, script_inputs,
+};
 pub use snapshot::{CapsuleResult, EsrtEntry, FmpResult, FolderFile, Snapshot, StagedPair};
 pub use text::trace_text;
 pub use trace::{Answer, BootEnd, Entry};
