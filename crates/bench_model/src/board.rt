@@ -1,5 +1,6 @@
-ghost use Rattle.std.specs.Prelude.{◌≡◌};
+ghost use Rattle.std.specs.Prelude.{◌≡◌, ◌≤◌, length};
 
+use crate::limits::{MAX_BANK, MAX_DEVICES, MAX_DIGESTS, MIN_BANK};
 use crate::{Device, Devices};
 use cu_base::{Digest, Items};
 use std::marker::Model;
@@ -28,13 +29,19 @@ impl Model for Board {
 }
 
 impl Board {
-    ghost use Rattle.bench_model.specs.Boards.{IsBoard};
+    ghost use Rattle.bench_model.specs.Boards.{IsBoard, least_bank};
 
     /// The board of these parts.
     pub fn new(bank: u32, result_max: u16, digests: Digests, devices: Devices) -> Board
-        requires { IsBoard (record { bank = bank; result_max = result_max; digests = digests.items; devices = devices.items }) }
+        requires bank_low { MIN_BANK ≤ bank }
+        requires bank_high { bank ≤ MAX_BANK }
+        requires results { least_bank result_max ≤ bank }
+        requires digests { length digests.items ≤ MAX_DIGESTS }
+        requires some_device { 1 ≤ length devices.items }
+        requires devices { length devices.items ≤ MAX_DEVICES }
         ensures { result ≡ record { bank = bank; result_max = result_max; digests = digests.items; devices = devices.items } }
     {
+        let _rule = devices.as_slice();
         Board {
             bank,
             result_max,

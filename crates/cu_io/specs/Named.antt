@@ -1,5 +1,5 @@
 -- Inputs that are found by name.
-use Rattle.std.specs.Prelude.{◌≡◌, ◌≢◌, ℕ, List, [], ◌∷◌, Option, None, Some, IsSome, ⊤, if◌then◌else◌}
+use Rattle.std.specs.Prelude.{◌≡◌, ℕ, List, [], ◌∷◌, Option, None, Some, IsSome, ⊤, if◌then◌else◌}
 use Rattle.std.specs.Str.{bytes_eq}
 
 -- each name with its bytes

@@ -49,6 +49,7 @@ impl<F: Read + OpenFile + Drop> Source for FileSource<F> {
 }
 
 /// The files of the runtime, by path. They tell no content, and a file that is not there is a counted fault.
+#[derive(Drop)]
 pub struct FileInputs<'a, R: Files> {
     rt: &'a R,
     asked: Names,
@@ -112,6 +113,7 @@ impl<'a, R: Files> Inputs for FileInputs<'a, R> {
 }
 
 /// The standard output. It does not tell what was written.
+#[derive(Drop)]
 pub struct StdSink<'a, P: Print> {
     rt: &'a P,
     faults: u64,

@@ -1,4 +1,4 @@
-ghost use Rattle.std.specs.Prelude.{◌≡◌, ℕ, ◌+◌, ◌-◌, ◌^◌, ◌∷◌, [], ◌++◌, ◌⊎◌, min, List, Option, IfOk, IsErrOf};
+ghost use Rattle.std.specs.Prelude.{◌≡◌, ℕ, ◌+◌, ◌-◌, ◌^◌, ◌≤◌, ◌∷◌, [], ◌++◌, ◌⊎◌, min, List, Option, IfOk, IsErrOf};
 ghost use Rattle.cu_base.specs.Causes.{HasCauseOf};
 ghost use Rattle.cu_io.specs.Named.{Named, Opens, IsMissing};
 
@@ -52,5 +52,6 @@ pub trait Inputs {
         ensures asked { asked self.new ≡ asked self.old }
         ensures named { named self.new ≡ named self.old }
         ensures taken { taken self.new ≡ min (taken self.old + Self.Src.taken src) (2 ^ 64 - 1) }
-        ensures faults { faults self.new ≡ min (faults self.old + Self.Src.faults src) (2 ^ 64 - 1) };
+        ensures faults { faults self.new ≡ min (faults self.old + Self.Src.faults src) (2 ^ 64 - 1) }
+        ensures later { faults self.old ≤ faults self.new };
 }

@@ -12,12 +12,14 @@ mod memory;
 mod read;
 mod sink;
 mod source;
+#[cfg(test)]
+mod tests;
 mod write;
 
 pub use files::{FileInputs, FileSource, StdSink};
 pub use inputs::{Inputs, OpenFault};
 pub use loaded::Loaded;
-pub use memory::{MemInputs, MemSink, MemSource};
+pub use memory::{MemInputs, MemSink, MemSource, NoFaultInputs, NoFaultSink, NoFaultSource};
 pub use read::{ReadFault, read_whole};
 pub use sink::{Sink, SinkFault};
 pub use source::Source;

@@ -17,7 +17,7 @@ use Rattle.reset_play.specs.Spent.{Element, is_open}
 use Rattle.reset_play.proofs.Keeping.{Keeps}
 
 -- what holds of each item holds of each that is kept
-all_kept : {X : Type 0} (P : X → Type 0) (keep : X → Bool) (xs : List X) → AllByRecursion P xs → AllByRecursion P (filter keep xs)
+pub all_kept : {X : Type 0} (P : X → Type 0) (keep : X → Bool) (xs : List X) → AllByRecursion P xs → AllByRecursion P (filter keep xs)
 all_kept P keep [] all = tt
 all_kept P keep (x ∷ xs) all =
     elim (keep x) as (λ b. AllByRecursion P (cond b (x ∷ filter keep xs) (filter keep xs))) [
@@ -38,15 +38,15 @@ pass_more keep x xs true e all = (e, all)
 pass_more keep x xs false e all = all
 
 -- the kept items pass the test
-kept_pass : {X : Type 0} (keep : X → Bool) (xs : List X) → AllByRecursion (λ x. keep x ≡ true) (filter keep xs)
+pub kept_pass : {X : Type 0} (keep : X → Bool) (xs : List X) → AllByRecursion (λ x. keep x ≡ true) (filter keep xs)
 kept_pass keep [] = tt
 kept_pass keep (x ∷ xs) = pass_more keep x (filter keep xs) (keep x) refl (kept_pass keep xs)
 
-all_imply : {X : Type 0} (P Q : X → Type 0) → ((x : X) → P x → Q x) → (xs : List X) → AllByRecursion P xs → AllByRecursion Q xs
+pub all_imply : {X : Type 0} (P Q : X → Type 0) → ((x : X) → P x → Q x) → (xs : List X) → AllByRecursion P xs → AllByRecursion Q xs
 all_imply P Q h [] all = tt
 all_imply P Q h (x ∷ xs) all = (h x all.0, all_imply P Q h xs all.1)
 
-all_more : {X : Type 0} (P : X → Type 0) (xs : List X) (y : X) → AllByRecursion P xs → P y → AllByRecursion P (xs ++ y ∷ [])
+pub all_more : {X : Type 0} (P : X → Type 0) (xs : List X) (y : X) → AllByRecursion P xs → P y → AllByRecursion P (xs ++ y ∷ [])
 all_more P [] y all h = (h, tt)
 all_more P (x ∷ xs) y all h = (all.0, all_more P xs y all.1 h)
 
@@ -55,7 +55,7 @@ distinct_more : {X : Type 0} (same : X → X → Bool) (xs : List X) (y : X) →
 distinct_more same [] y d all = (tt, tt)
 distinct_more same (x ∷ xs) y d all = (all_more (λ z. same x z ≡ false) xs y d.0 all.0, distinct_more same xs y d.1 all.1)
 
-no_longer : (b : Bool) → not b ≡ true → b ≡ false
+pub no_longer : (b : Bool) → not b ≡ true → b ≡ false
 no_longer true e = cc
 no_longer false e = refl
 
@@ -85,7 +85,7 @@ unit_apart : (f : Formats) (b : Progress) (u : BootUnit) (rest : List Work) (c :
 unit_apart f b u rest Claim a = record { names = a.names; files = a.files; last_file = a.last_file; staged = a.staged; last_staged = a.last_staged }
 unit_apart f b u rest (Close end) a = record { names = a.names; files = a.files; last_file = a.last_file; staged = a.staged; last_staged = a.last_staged }
 
-after_apart : (f : Formats) (b : Progress) (left : List Work) → AreApart b.machine → AreApart (after f b left).machine
+pub after_apart : (f : Formats) (b : Progress) (left : List Work) → AreApart b.machine → AreApart (after f b left).machine
 after_apart f b [] a = a
 after_apart f b (Settles kind end ∷ rest) a = settled_apart b.machine end (find is_open b.machine.list) a
 after_apart f b (Unstages pair ∷ rest) a = record {

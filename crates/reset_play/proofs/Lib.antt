@@ -3,9 +3,12 @@ pub mod Ending
 pub mod Floors
 pub mod Going
 pub mod Keeping
+pub mod Keys
 pub mod Lists
 pub mod Once
+pub mod Ordered
 pub mod Reached
+pub mod SampleTexts
 pub mod ScriptLemmas
 pub mod ScriptNames
-pub mod SampleTexts
+pub mod TextLemmas

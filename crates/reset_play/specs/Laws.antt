@@ -1,5 +1,5 @@
 -- What holds of every machine that is reached from a fresh board, whatever is delivered and whatever fails.
-use Rattle.std.specs.Prelude.{◌≡◌, ℕ, ◌≤◌, Bool, false, ◌==◌, List, [], ◌∷◌, ◌++◌, IsTrue}
+use Rattle.std.specs.Prelude.{◌≡◌, ◌≢◌, ℕ, ◌≤◌, Bool, false, ◌==◌, List, [], ◌∷◌, ◌++◌, IsTrue, length, filter}
 use Rattle.std.specs.List.{AllByRecursion}
 use Rattle.reset_play.specs.declared.trace.BootEnd.{BootEnd}
 use Rattle.reset_play.specs.declared.trace.BootEnd.TheVariants as ends
@@ -11,7 +11,7 @@ use Rattle.reset_play.specs.Events.{Act, Run}
 use Rattle.reset_play.specs.Formats.{Formats}
 use Rattle.reset_play.specs.Machine.{File, Machine, fresh}
 use Rattle.reset_play.specs.Names.{is_same_name}
-use Rattle.reset_play.specs.Spent.{Element, is_open, is_attempt, floor_of}
+use Rattle.reset_play.specs.Spent.{Element, is_open, is_attempt, floor_of, is_of}
 use Rattle.reset_play.specs.Told.{Told, Said}
 use Rattle.reset_play.specs.Told.Told.{Done, Serial, FlashFault, VolumeFault, NoBank, Full, Wraps, Invalid, Unsupported, Resources, Booted, Shown}
 
@@ -82,3 +82,13 @@ pub record AreApart (m : Machine) : Type 0 where
   pub last_file : AllByRecursion (λ x. x.serial ≤ m.last_file) m.files
   pub staged : Distinct (λ a b. a.serial == b.serial) m.staged
   pub last_staged : AllByRecursion (λ p. p.serial ≤ m.last_staged) m.staged
+
+-- the units of one delivery stand in order, without gaps from 0: each is preceded by as many as its number says
+abbrev pub StandInOrder : List Element → Type 0
+StandInOrder list =
+    (before rest : List Element) (e : Element) → list ≡ before ++ e ∷ rest
+    → e.key.unit ≡ length (filter (λ x. is_of e.key.ticket.route e.key.ticket.serial x.key) before)
+
+-- no key stands twice
+abbrev pub HaveDistinctKeys : List Element → Type 0
+HaveDistinctKeys list = (before between rest : List Element) (a b : Element) → list ≡ before ++ a ∷ (between ++ b ∷ rest) → a.key ≢ b.key

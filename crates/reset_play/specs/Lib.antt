@@ -8,12 +8,12 @@ pub mod Names
 pub mod Order
 pub mod Report
 pub mod Results
+pub mod Samples
 pub mod ScriptAnswers
 pub mod ScriptEvents
 pub mod ScriptInputs
 pub mod ScriptText
 pub mod ScriptWords
-pub mod Samples
 pub mod Spent
 pub mod Texts
 pub mod Thin

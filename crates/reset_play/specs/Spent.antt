@@ -1,5 +1,5 @@
 -- The list of spent units, which only grows, and what is read off it. A place of the list is the front of it up to there.
-use Rattle.std.specs.Prelude.{ℕ, Bool, true, false, ◌==◌, ◌&&◌, ◌||◌, not, max, min, List, [], ◌∷◌, map, filter, count_by, slice_get, Option, None, Some, option_map, unwrap_or, if◌then◌else◌}
+use Rattle.std.specs.Prelude.{ℕ, Bool, true, false, ◌==◌, ◌&&◌, ◌||◌, not, max, min, List, [], ◌∷◌, length, map, filter, slice_get, Option, None, Some, option_map, unwrap_or, if◌then◌else◌}
 use Rattle.std.specs.List.{enumerate_from, last_or}
 use Rattle.cu_base.specs.declared.guid.Guid.{Guid}
 use Rattle.cu_base.specs.declared.time.EfiTime.{EfiTime}
@@ -139,6 +139,10 @@ version_of board list d = unwrap_or (option_map (λ i. i.version) (image_of boar
 abbrev pub versions_of : BoardValue → List Element → List (Guid × ℕ)
 versions_of board list = map (λ p. (p.1.type_id, version_of board list p.0)) (enumerate_from 0 board.devices)
 
+-- whether a unit is of the delivery of a route and a serial
+abbrev pub is_of : ℕ → ℕ → UnitKey → Bool
+is_of route serial key = key.ticket.route == route && key.ticket.serial == serial
+
 -- how many units of a file are spent: the closed elements of its serial
 abbrev pub spent : List Element → ℕ → ℕ
-spent list serial = count_by (λ e. is_closed e && e.key.ticket.route == 1 && e.key.ticket.serial == serial) list
+spent list serial = length (filter (λ e. is_of 1 serial e.key && is_closed e) list)

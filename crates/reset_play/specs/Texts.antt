@@ -1,7 +1,6 @@
 -- The text of a trace. Each event has one line, and the lines of a boot and of what is shown stand before it, with two spaces
 -- in front.
 use Rattle.std.specs.Prelude.{ℕ, true, false, ◌+◌, ◌/◌, ◌%◌, ◌^◌, ◌==◌, List, [], ◌∷◌, ◌++◌, length, flat_map, slice_get, codes, decimal, Option, None, Some, option_map, unwrap_or, if◌then◌else◌}
-use Rattle.std.specs.List.{join_with_byte}
 use Rattle.std.specs.Fmt.{digit_glyph, radix_digits}
 use Rattle.cu_base.specs.declared.status.EfiStatus.{EfiStatus}
 use Rattle.cu_base.specs.declared.ticket.Ticket.{Ticket}
@@ -22,25 +21,29 @@ use Rattle.bench_model.specs.Boards.{BoardValue}
 use Rattle.reset_play.specs.Told.{Told, Picture}
 use Rattle.reset_play.specs.Told.Told.{Done, Serial, FlashFault, VolumeFault, NoBank, Full, Wraps, Invalid, Unsupported, Resources, Booted, Shown}
 
--- words with one space between two
-abbrev pub spaced : List (List ℕ) → List ℕ
-spaced words = join_with_byte 32 words
+-- words, each with a space before it
+abbrev pub parts : List (List ℕ) → List ℕ
+parts words = flat_map (λ w. 32 ∷ w) words
 
--- a line of these words, and one with two spaces in front
-abbrev pub line : List (List ℕ) → List ℕ
-line words = spaced words ++ 10 ∷ []
+-- a line: a first word, further ones, and the line feed
+abbrev pub line : List ℕ → List (List ℕ) → List ℕ
+line first words = first ++ parts words ++ 10 ∷ []
 
-abbrev pub indented : List (List ℕ) → List ℕ
-indented words = codes "  " ++ line words
+-- a line with two spaces in front
+abbrev pub indented : List ℕ → List (List ℕ) → List ℕ
+indented first words = codes "  " ++ line first words
 
 -- what stands for something that is not there
 abbrev pub dash : List ℕ
 dash = codes "-"
 
+-- a byte in two upper-case hexadecimal digits
+abbrev pub hex_pair : ℕ → List ℕ
+hex_pair n = digit_glyph true (n / 16) ∷ digit_glyph true (n % 16) ∷ []
+
 -- the name of a result variable: `Capsule` and four upper-case hexadecimal digits (UEFI 2.10, 8.5.6)
 abbrev pub result_name : ℕ → List ℕ
-result_name n =
-    codes "Capsule" ++ digit_glyph true (n / 4096 % 16) ∷ digit_glyph true (n / 256 % 16) ∷ digit_glyph true (n / 16 % 16) ∷ digit_glyph true (n % 16) ∷ []
+result_name n = codes "Capsule" ++ hex_pair (n / 256) ++ hex_pair (n % 256)
 
 -- the number of an EFI_STATUS without its top bit
 abbrev pub status_text : EfiStatus → List ℕ
@@ -85,16 +88,23 @@ attempt_text Bad text = dash
 abbrev pub device_text : BoardValue → ℕ → List ℕ
 device_text board d = unwrap_or (option_map (λ x. x.name) (slice_get board.devices d)) dash
 
--- a line of a boot: kind, source, capsule, item, target, status, version, result
+-- where a line of a boot comes from and where to it goes: source, capsule, item, target
+abbrev pub key_words : BoardValue → UnitLine → List (List ℕ)
+key_words board l =
+    source_text l.key.ticket l.key.name ∷ capsule_text l.kind l.key.ticket.capsule ∷ item_text l.kind l.key.ticket.item
+    ∷ attempt_text l.kind (device_text board l.key.device) ∷ []
+
+-- and how it ended: status, version, result
+abbrev pub end_words : UnitLine → List (List ℕ)
+end_words l = status_text l.status ∷ attempt_text l.kind (decimal l.version) ∷ result_name l.result ∷ []
+
+-- a line of a boot
 abbrev pub unit_text : BoardValue → UnitLine → List ℕ
-unit_text board l =
-    indented (kind_word l.kind ∷ source_text l.key.ticket l.key.name ∷ capsule_text l.kind l.key.ticket.capsule
-    ∷ item_text l.kind l.key.ticket.item ∷ attempt_text l.kind (device_text board l.key.device) ∷ status_text l.status
-    ∷ attempt_text l.kind (decimal l.version) ∷ result_name l.result ∷ [])
+unit_text board l = indented (kind_word l.kind) (key_words board l ++ end_words l)
 
 abbrev pub esrt_text : EsrtEntry → List ℕ
 esrt_text e =
-    indented (codes "esrt" ∷ guid_text e.class ∷ decimal e.fw_type ∷ decimal e.version ∷ decimal e.lowest ∷ decimal e.flags
+    indented (codes "esrt") (guid_text e.class ∷ decimal e.fw_type ∷ decimal e.version ∷ decimal e.lowest ∷ decimal e.flags
     ∷ decimal e.last_version ∷ decimal e.last_status ∷ [])
 
 -- a text, or a dash for the empty one
@@ -107,18 +117,18 @@ fmp_words None = []
 fmp_words (Some p) = decimal p.payload ∷ decimal p.index ∷ or_dash p.file ∷ or_dash p.target ∷ []
 
 abbrev pub result_text : CapsuleResult → List ℕ
-result_text r = indented (codes "result" ∷ result_name r.number ∷ status_text r.status ∷ guid_text r.guid ∷ fmp_words r.fmp)
+result_text r = indented (codes "result") (result_name r.number ∷ status_text r.status ∷ guid_text r.guid ∷ fmp_words r.fmp)
 
 abbrev pub last_text : Option ℕ → List ℕ
 last_text None = []
-last_text (Some n) = indented (codes "last" ∷ result_name n ∷ [])
+last_text (Some n) = indented (codes "last") (result_name n ∷ [])
 
 abbrev pub file_text : FolderFile → List ℕ
-file_text x = indented (codes "file" ∷ x.name ∷ decimal x.serial ∷ decimal x.size ∷ [])
+file_text x = indented (codes "file") (x.name ∷ decimal x.serial ∷ decimal x.size ∷ [])
 
 -- a staged delivery with its address in lower-case hexadecimal
 abbrev pub staged_text : StagedPair → List ℕ
-staged_text p = indented (codes "staged" ∷ decimal p.serial ∷ radix_digits 16 false p.address ∷ [])
+staged_text p = indented (codes "staged") (decimal p.serial ∷ radix_digits 16 false p.address ∷ [])
 
 -- what the platform shows: the ESRT, the results, the last of them, the files and the staged deliveries
 abbrev pub picture_text : Picture → List ℕ
@@ -173,16 +183,16 @@ answer_words Resources = codes "resources" ∷ []
 answer_words (Booted report end) = end_word end ∷ []
 answer_words (Shown picture) = codes "ok" ∷ []
 
--- the lines of the n-th event
-abbrev pub entry_text : BoardValue → ℕ → Event → Told → List ℕ
-entry_text board n event answer = lines_before board answer ++ line (decimal n ∷ event_word event ∷ answer_words answer)
+-- the line of the n-th event
+abbrev pub event_line : ℕ → Event → Told → List ℕ
+event_line n event answer = line (decimal n) (event_word event ∷ answer_words answer)
 
 -- the lines of events from the n-th on, as far as there are answers
 abbrev pub entries_text : BoardValue → ℕ → List Event → List Told → List ℕ
 entries_text board n [] answers = []
 entries_text board n (event ∷ events) [] = []
-entries_text board n (event ∷ events) (answer ∷ answers) = entry_text board n event answer ++ entries_text board (n + 1) events answers
+entries_text board n (event ∷ events) (answer ∷ answers) = lines_before board answer ++ event_line n event answer ++ entries_text board (n + 1) events answers
 
 -- events count from 1; the last line tells how many there are
 abbrev pub trace_text : BoardValue → List Event → List Told → List ℕ
-trace_text board events answers = entries_text board 1 events answers ++ line (codes "done" ∷ decimal (length events) ∷ [])
+trace_text board events answers = entries_text board 1 events answers ++ line (codes "done") (decimal (length events) ∷ [])

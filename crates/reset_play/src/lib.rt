@@ -10,6 +10,7 @@ mod limits;
 mod report;
 mod script;
 mod snapshot;
+mod text;
 mod trace;
 mod unit;
 
@@ -26,6 +27,7 @@ pub use script::{
     read_script, script_inputs,
 };
 pub use snapshot::{CapsuleResult, EsrtEntry, FmpResult, FolderFile, Snapshot, StagedPair};
+pub use text::trace_text;
 pub use trace::{Answer, BootEnd, Entry};
 pub use unit::{End, Kind, UnitKey, UnitLine};
 

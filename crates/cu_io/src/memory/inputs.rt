@@ -3,8 +3,9 @@ ghost use Rattle.cu_base.specs.Causes.{HasCauseOf};
 ghost use Rattle.cu_io.specs.Named.{LacksName, bytes_named, Opens, IsMissing};
 ghost use Rattle.cu_io.specs.Numbered.{one_more};
 
-use crate::{Inputs, Loaded, MemSource, OpenFault};
-use cu_base::{Blob, Names, NoMemory, Numbers, Text};
+use super::known::Known;
+use crate::{Inputs, MemSource, OpenFault};
+use cu_base::{Blob, NoMemory, Numbers, Text};
 use std::alloc::Global;
 use std::marker::Model;
 
@@ -12,12 +13,10 @@ use std::marker::Model;
 /// calls of `open` that fail, those of the reads that fail at each source, and the counts.
 #[derive(Drop)]
 pub struct MemInputs {
-    loaded: Loaded,
-    asked: Names,
+    known: Known,
     open_fails: Numbers,
     read_fails: Numbers,
     calls: u64,
-    taken: u64,
     faults: u64,
 }
 
@@ -27,12 +26,12 @@ impl Model for MemInputs {
     ghost Value = { Findable };
 
     ghost view = { λ s. record {
-      named = s.loaded.items;
-      asked = s.asked.items;
+      named = s.known.named;
+      asked = s.known.asked;
       open_fails = s.open_fails.items;
       read_fails = s.read_fails.items;
       calls = s.calls;
-      taken = s.taken;
+      taken = s.known.taken;
       faults = s.faults;
     } };
 }
@@ -44,12 +43,10 @@ impl MemInputs {
         ensures { result ≡ record { named = []; asked = []; open_fails = open_fails.items; read_fails = read_fails.items; calls = 0; taken = 0; faults = 0 } }
     {
         MemInputs {
-            loaded: Loaded::new(alloc),
-            asked: Names::new(alloc),
+            known: Known::new(alloc),
             open_fails,
             read_fails,
             calls: 0,
-            taken: 0,
             faults: 0,
         }
     }
@@ -60,7 +57,7 @@ impl MemInputs {
         ensures ok { OnOk result (self.new ≡ record self.old { named = self.old.named ++ (name, bytes) ∷ [] }) }
         ensures err { OnErr result (self.new ≡ self.old) }
     {
-        self.loaded.push((name, bytes))
+        self.known.add(name, bytes)
     }
 }
 
@@ -94,24 +91,21 @@ impl Inputs for MemInputs {
         ensures frame { (self.new.open_fails ≡ self.old.open_fails) × (self.new.read_fails ≡ self.old.read_fails) }
     {
         self.calls = self.calls.saturating_add(1);
-        let Ok(kept) = Text::from_str(alloc, name.as_str()) else {
-            return Err(OpenFault::Memory);
-        };
-        if self.asked.push(kept).is_err() {
+        if self.known.ask(alloc, name).is_err() {
             return Err(OpenFault::Memory);
         }
         if self.open_fails.as_slice().contains(&self.calls) {
             self.faults = self.faults.saturating_add(1);
             return Err(OpenFault::Failed);
         }
-        let Some(bytes) = self.loaded.get(name.as_str()) else {
+        let Some(bytes) = self.known.find(name) else {
             return Err(OpenFault::Missing);
         };
         source_of(alloc, bytes, self.read_fails.as_slice()).map_err(|_| OpenFault::Memory)
     }
 
     fn fold(&mut self, src: MemSource) {
-        self.taken = self.taken.saturating_add(src.taken());
+        self.known.count(src.taken());
         self.faults = self.faults.saturating_add(src.faults());
     }
 }

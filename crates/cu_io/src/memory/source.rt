@@ -5,6 +5,7 @@ ghost use Rattle.cu_base.specs.Causes.{HasCause};
 ghost use Rattle.cu_io.specs.Streams.{CountsTaken};
 ghost use Rattle.cu_io.specs.Numbered.{one_more};
 
+use super::reader::Reader;
 use crate::Source;
 use cu_base::{Blob, Failed, Numbers};
 use std::marker::Model;
@@ -13,23 +14,18 @@ use std::marker::Model;
 /// there were, how many bytes they gave and how many failed.
 #[derive(Drop)]
 pub struct MemSource {
-    bytes: Blob,
-    at: usize,
+    reader: Reader,
     fails: Numbers,
     calls: u64,
-    taken: u64,
     faults: u64,
 }
 
 impl Model for MemSource {
-    ghost use Rattle.std.specs.Prelude.{◌≤◌, length, drop};
     ghost use Rattle.cu_io.specs.Numbered.{Readable};
 
     ghost Value = { Readable };
 
-    ghost view = { λ s. record { left = drop s.at s.bytes; fails = s.fails.items; calls = s.calls; taken = s.taken; faults = s.faults } };
-
-    ghost invariant = { λ s. s.at ≤ length s.bytes };
+    ghost view = { λ s. record { left = s.reader.left; fails = s.fails.items; calls = s.calls; taken = s.reader.taken; faults = s.faults } };
 }
 
 impl MemSource {
@@ -38,11 +34,9 @@ impl MemSource {
         ensures { result ≡ record { left = bytes; fails = fails.items; calls = 0; taken = 0; faults = 0 } }
     {
         MemSource {
-            bytes,
-            at: 0,
+            reader: Reader::new(bytes),
             fails,
             calls: 0,
-            taken: 0,
             faults: 0,
         }
     }
@@ -51,7 +45,7 @@ impl MemSource {
     pub fn taken(&self) -> u64
         ensures { result ≡ self.now.taken }
     {
-        self.taken
+        self.reader.taken()
     }
 
     /// How many of its reads failed.
@@ -89,15 +83,10 @@ impl Source for MemSource {
             self.faults = self.faults.saturating_add(1);
             return Err(Failed);
         }
-        let left = &self.bytes.as_slice()[self.at..];
-        let n = out.len().min(left.len());
-        out[..n].copy_from_slice(&left[..n]);
-        self.at += n;
-        self.taken = self.taken.saturating_add(n as u64);
-        Ok(n)
+        Ok(self.reader.give(out))
     }
 
     fn expected_len(&self) -> u64 {
-        (self.bytes.len() - self.at) as u64
+        self.reader.left_len() as u64
     }
 }
