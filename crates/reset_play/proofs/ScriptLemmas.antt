@@ -1,5 +1,5 @@
 -- Parts, numbers and lines of a script.
-use Rattle.std.proofs.Common.{◌≡◌, ℕ, zero, suc, ◌+◌, ◌-◌, ◌*◌, ◌^◌, ◌<◌, ◌≤◌, min, Bool, true, false, not, ◌==◌, List, [], ◌∷◌, ◌++◌, length, get_or, take, drop, add-one, length-drop, length-append, append_assoc, Option, Some, None, Result, Ok, Err, nat_lt, All, IsTrue, inl, inr, ⊎_elim, refl, sym, ap, ◌∙◌, subst, lit<, arith}
+use Rattle.std.proofs.Common.{◌≡◌, ℕ, suc, ◌+◌, ◌-◌, ◌*◌, ◌^◌, ◌<◌, ◌≤◌, min, true, not, ◌==◌, List, [], ◌∷◌, ◌++◌, length, get_or, take, drop, add-one, length-drop, append_assoc, Some, Ok, Err, nat_lt, ⊎_elim, refl, sym, ap, ◌∙◌, subst, lit<, arith}
 use Rattle.std.proofs.Math.Nat.{pow-le-pow_right, pow-suc}
 use Rattle.std.proofs.Math.Seq.{drop-cons}
 use Rattle.std.proofs.lemmas.Bool.{not-true, cases_lt, lt-ltb}
@@ -8,7 +8,6 @@ use Rattle.std.proofs.lemmas.List.Splits.{slice_split_first, slice_split_none}
 use Rattle.std.proofs.lemmas.List.Sums.{prefix_len_passes}
 use Rattle.std.specs.List.{prefix_len}
 use Rattle.reset_play.specs.declared.event.Event.{Event}
-use Rattle.reset_play.specs.declared.script.faults.ScriptKind.{ScriptKind}
 use Rattle.reset_play.specs.declared.script.limits.TheConstants.{MAX_EVENTS}
 use Rattle.reset_play.specs.ScriptText.{Said, behind, line_said, lines_said}
 use Rattle.reset_play.specs.ScriptWords.{parts, parts_behind, decimal_behind, hex_behind, hex_value, hex_pairs}

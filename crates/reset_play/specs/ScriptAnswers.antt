@@ -1,5 +1,5 @@
 -- What a reader of scripts answers: what the definition says, unless memory ran out.
-use Rattle.std.specs.Prelude.{◌≡◌, ℕ, List, Option, Some, None, Result, Ok, Err}
+use Rattle.std.specs.Prelude.{◌≡◌, Result, Ok, Err}
 use Rattle.cu_base.specs.Kept.{Kept}
 use Rattle.reset_play.specs.declared.event.Event.{Event}
 use Rattle.reset_play.specs.declared.script.faults.LineFault.{LineFault}

@@ -1,5 +1,5 @@
 -- The events of a script: for each first word, what the operands behind it say.
-use Rattle.std.specs.Prelude.{ℕ, Bool, true, false, codes, if◌then◌else◌, List, [], ◌∷◌, Option, Some, None, option_and_then, option_map, ok_or, Result, Ok, Err}
+use Rattle.std.specs.Prelude.{ℕ, Bool, true, false, codes, if◌then◌else◌, List, [], ◌∷◌, Option, Some, None, option_and_then, option_map, ok_or, Result, Err}
 use Rattle.std.specs.Result.{result_ok}
 use Rattle.std.specs.Str.{bytes_eq}
 use Rattle.cu_base.specs.Times.{time_of_text}

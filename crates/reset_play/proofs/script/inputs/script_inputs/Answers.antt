@@ -1,5 +1,4 @@
-use Rattle.std.proofs.Common.{◌∙◌, ap, List, arith}
-use Rattle.reset_play.specs.declared.event.Event.{Event}
+use Rattle.std.proofs.Common.{◌∙◌, ap, arith}
 use Rattle.reset_play.specs.ScriptInputs.{inputs_of}
 use Rattle.reset_play.proofs.ScriptNames.{named_more, named_none}
 use Rattle.reset_play.proofs.script.inputs.script_inputs.Goals as goal
