@@ -1,5 +1,5 @@
 -- When a call of the outside may fail: only where its count of faults rose in that call.
-use Rattle.std.specs.Prelude.{◌≡◌, ℕ, ◌+◌, ◌-◌, ◌≤◌, ◌^◌, min, Result, OnErr, IsErrOf}
+use Rattle.std.specs.Prelude.{ℕ, ◌+◌, ◌-◌, ◌≤◌, ◌^◌, min, Result, OnErr, IsErrOf}
 
 -- a count rose, or it stands at its last value
 abbrev pub Rose : ℕ → ℕ → Type 0

@@ -1,4 +1,6 @@
 pub mod Causes
 pub mod Fields
+pub mod Guids
 pub mod Kept
 pub mod Refusals
+pub mod Times

@@ -11,9 +11,13 @@ mod digest;
 mod faults;
 mod guid;
 mod items;
+pub mod laws;
 mod limits;
+mod moment;
 mod number;
 mod status;
+#[cfg(test)]
+mod tests;
 mod text;
 mod ticket;
 mod time;
@@ -25,11 +29,11 @@ pub use faults::{BaseFault, Failed, NoMemory};
 pub use guid::Guid;
 pub use items::Items;
 pub use limits::MAX_CAPSULE_BYTES;
-pub use number::{read_u16, read_u32, read_u64};
+pub use number::{put_u16, put_u32, put_u64, read_u16, read_u32, read_u64};
 pub use status::EfiStatus;
 pub use text::Text;
 pub use ticket::Ticket;
-pub use time::EfiTime;
+pub use time::{EfiTime, UNSPECIFIED_ZONE};
 
 /// A list of texts.
 pub type Names = Items<Text>;

@@ -1,0 +1,4 @@
+pub mod FieldLemmas
+pub mod GuidLemmas
+pub mod Sixteen
+pub mod TimeLemmas

@@ -1,0 +1,46 @@
+//! What holds of the bytes and texts that this crate reads and writes, whatever the values.
+
+ghost use Rattle.std.specs.Prelude.{◌≡◌, ◌<◌, ◌^◌, ℕ, List, All, IsTrue, length, Ok};
+ghost use Rattle.cu_base.specs.Fields.{number, bytes_of};
+ghost use Rattle.cu_base.specs.Guids.{fields_reversed, guid_of_text, guid_text};
+ghost use Rattle.cu_base.specs.declared.guid.Guid.{Guid};
+ghost use Rattle.cu_base.specs.Times.{is_in_calendar, moment, time_at_front, time_bytes, time_of_text, time_text};
+
+use crate::EfiTime;
+
+/// A number that is written in enough bytes is read back.
+pub fn numbers_read_back()
+    ensures { (size n : ℕ) → n < 256 ^ size → number (bytes_of size n) ≡ n }
+{}
+
+/// Bytes whose number is read are written again.
+pub fn numbers_write_back()
+    ensures { (bytes : List ℕ) → All (λ b. b < 256) bytes → bytes_of (length bytes) (number bytes) ≡ bytes }
+{}
+
+/// To reverse the fields of a GUID twice changes nothing.
+pub fn fields_reverse_back()
+    ensures { (bytes : List ℕ) → length bytes ≡ 16 → fields_reversed (fields_reversed bytes) ≡ bytes }
+{}
+
+/// The text of a GUID shows that GUID.
+pub fn guids_read_back()
+    ensures { (bytes : List ℕ) → length bytes ≡ 16 → All (λ b. b < 256) bytes →
+        let guid : Guid = record { bytes = bytes } in guid_of_text (guid_text guid) ≡ Ok guid }
+{}
+
+/// The bytes of a moment, whatever its fields hold, hold that moment.
+pub fn times_read_back(time: EfiTime)
+    ensures { time_at_front (time_bytes time) ≡ time }
+{}
+
+/// The moment of any 16 bytes has those bytes.
+pub fn times_write_back()
+    ensures { (bytes : List ℕ) → length bytes ≡ 16 → All (λ b. b < 256) bytes → time_bytes (time_at_front bytes) ≡ bytes }
+{}
+
+/// The text of a moment of the calendar, of whole seconds in no stated time zone, shows that moment.
+pub fn texts_read_back()
+    ensures { (year month day hour minute second : ℕ) → let time = moment year month day hour minute second in
+        IsTrue (is_in_calendar time) → time_of_text (time_text time) ≡ Ok time }
+{}

@@ -1,0 +1,5 @@
+pub mod Floors
+pub mod Going
+pub mod Keeping
+pub mod Lists
+pub mod Reached

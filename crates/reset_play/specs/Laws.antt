@@ -1,0 +1,66 @@
+-- What holds of every machine that is reached from a fresh board, whatever is delivered and whatever fails.
+use Rattle.std.specs.Prelude.{◌≡◌, ℕ, ◌≤◌, List, [], ◌∷◌, ◌++◌, IsTrue}
+use Rattle.reset_play.specs.declared.trace.BootEnd.{BootEnd}
+use Rattle.reset_play.specs.declared.trace.BootEnd.TheVariants as ends
+use Rattle.reset_play.specs.declared.unit.End.{End}
+use Rattle.reset_play.specs.declared.unit.End.TheVariants.{Refused, Sealed, Kept, Lost}
+use Rattle.reset_play.specs.Board.{Board}
+use Rattle.reset_play.specs.Boots.{boot_at}
+use Rattle.reset_play.specs.Events.{Act, Run}
+use Rattle.reset_play.specs.Formats.{Formats}
+use Rattle.reset_play.specs.Machine.{Machine, fresh}
+use Rattle.reset_play.specs.Spent.{Element, is_open, is_attempt, floor_of}
+use Rattle.reset_play.specs.Told.{Told, Said}
+use Rattle.reset_play.specs.Told.Told.{Done, Serial, FlashFault, VolumeFault, NoBank, Full, Wraps, Invalid, Unsupported, Resources, Booted, Shown}
+
+-- an end that is told by what a device holds
+abbrev pub IsHeldEnd : End → Type 0
+IsHeldEnd (Refused status) = ⊥
+IsHeldEnd Sealed = Unit {0}
+IsHeldEnd Kept = Unit {0}
+IsHeldEnd Lost = Unit {0}
+
+-- a machine that some events and then some steps of a boot lead to from a fresh board, with or without faults
+pub record IsReached (f : Formats) (board : Board) (m : Machine) : Type 0 where
+  pub acts : List Act
+  pub told : List Said
+  pub between : Machine
+  pub run : Run f (fresh board) acts told between
+  pub end : End
+  pub held : IsHeldEnd end
+  pub steps : ℕ
+  pub reached : m ≡ (boot_at f between end steps).machine
+
+-- an open element is the last one, so that there is at most one
+abbrev pub OpenIsLast : List Element → Type 0
+OpenIsLast list = (before rest : List Element) (e : Element) → list ≡ before ++ e ∷ rest → IsTrue (is_open e) → rest ≡ []
+
+-- an attempt has at least the version that is the floor in force where it stands
+abbrev pub AttemptsReachFloor : Board → List Element → Type 0
+AttemptsReachFloor board list =
+    (before rest : List Element) (e : Element) → list ≡ before ++ e ∷ rest → IsTrue (is_attempt e) → floor_of board before e.key.device ≤ e.version
+
+-- an answer tells no fault
+abbrev pub IsNoFaultEnd : BootEnd → Type 0
+IsNoFaultEnd ends.Ok = Unit {0}
+IsNoFaultEnd ends.Flash = ⊥
+IsNoFaultEnd ends.Volume = ⊥
+IsNoFaultEnd ends.NoBank = ⊥
+
+abbrev pub IsNoFault : Told → Type 0
+IsNoFault Done = Unit {0}
+IsNoFault (Serial serial) = Unit {0}
+IsNoFault FlashFault = ⊥
+IsNoFault VolumeFault = ⊥
+IsNoFault NoBank = ⊥
+IsNoFault Full = Unit {0}
+IsNoFault Wraps = Unit {0}
+IsNoFault Invalid = Unit {0}
+IsNoFault Unsupported = Unit {0}
+IsNoFault Resources = Unit {0}
+IsNoFault (Booted report end) = IsNoFaultEnd end
+IsNoFault (Shown picture) = Unit {0}
+
+abbrev pub TellNoFault : List Said → Type 0
+TellNoFault [] = Unit {0}
+TellNoFault (said ∷ rest) = IsNoFault said.answer × TellNoFault rest

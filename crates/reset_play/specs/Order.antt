@@ -1,0 +1,11 @@
+-- A list put into an order.
+use Rattle.std.specs.Prelude.{Bool, List, [], ◌∷◌, if◌then◌else◌}
+
+-- the list with x before the first item that comes after it
+abbrev pub inserted : {X : Type 0} → (X → X → Bool) → X → List X → List X
+inserted comes_before x [] = x ∷ []
+inserted comes_before x (y ∷ ys) = if comes_before x y then x ∷ y ∷ ys else y ∷ inserted comes_before x ys
+
+abbrev pub in_order : {X : Type 0} → (X → X → Bool) → List X → List X
+in_order comes_before [] = []
+in_order comes_before (x ∷ xs) = inserted comes_before x (in_order comes_before xs)

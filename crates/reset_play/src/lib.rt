@@ -1,0 +1,36 @@
+//! A play: the events of a script on a board, what each answers, and the text of the trace.
+//!
+//! `specs/` holds the reference machine: what a delivery is made of, the list of spent units and what is read off it, the
+//! checks of an attempt, the steps of a boot, and which machine each event leaves. Contracts speak of a play by these words.
+#![tactic(auto)]
+
+mod choice;
+mod event;
+mod laws;
+mod limits;
+mod report;
+mod snapshot;
+mod trace;
+mod unit;
+
+pub use choice::Choice;
+use cu_base::Items;
+pub use event::Event;
+pub use laws::{attempts_reach_the_floor, floor_never_falls, the_last_alone_is_open};
+pub use limits::{MAX_FILES, MAX_MEMORY_BYTES, MAX_SEGMENTS, MAX_STAGED};
+pub use report::Report;
+pub use snapshot::{CapsuleResult, EsrtEntry, FmpResult, FolderFile, Snapshot, StagedPair};
+pub use trace::{Answer, BootEnd, Entry};
+pub use unit::{End, Kind, UnitKey, UnitLine};
+
+/// The events of a play, in order.
+pub type Script = Items<Event>;
+
+/// The entries of a play, one for each event, in order.
+pub type Trace = Items<Entry>;
+
+/// The lines of a boot, in order.
+pub type UnitLines = Items<UnitLine>;
+
+/// Serials of deliveries.
+pub type Serials = Items<u64>;
