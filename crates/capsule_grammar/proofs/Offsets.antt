@@ -4,7 +4,7 @@ use Rattle.std.proofs.lemmas.Bool.{ltb-false, ltb-true, leb-false, lt-ltb, le-lt
 use Rattle.cu_base.specs.Refusals.{Row, row, first_refusal}
 use Rattle.fmp_headers.proofs.Rows.{passed}
 use Rattle.capsule_grammar.specs.Refusals.{item_count, list_end, offset, bound, offset_rows, all_offset_rows}
-use Rattle.capsule_grammar.specs.Bounds.{AreBounds}
+use Rattle.capsule_grammar.specs.Accepted.{AreBounds}
 use Rattle.capsule_grammar.proofs.Tables.{each_in}
 
 -- an offset that is not refused
@@ -42,6 +42,12 @@ are_bounds body at long h = record {
     | inl here ↦ rw (bound_is body k here) (is_offset body at k (h k here)).within
     | inr end ↦ rw (bound_ends body k end) (omega arith)
   ];
+  apart = λ k next.
+      let up : 0 < k + 1 → offset body (k + 1 - 1) < offset body (k + 1) = (is_offset body at (k + 1) (h (k + 1) next)).rising in
+      let same : k + 1 - 1 ≡ k = omega arith in
+      let more : offset body k < offset body (k + 1) = rw same at (up (omega arith)) in
+      let here : k < item_count body = omega arith in
+      rw (bound_is body k here, bound_is body (k + 1) next) more;
   rising = λ k here. elim (cases_lt (k + 1) (item_count body)) [
     | inl next ↦
         let up : 0 < k + 1 → offset body (k + 1 - 1) < offset body (k + 1) = (is_offset body at (k + 1) (h (k + 1) next)).rising in

@@ -3,7 +3,7 @@
 ghost use Rattle.std.specs.Prelude.{◌≡◌, ℕ, ◌+◌, ◌*◌, ◌-◌, ◌≤◌, ◌<◌, ◌^◌, IfOk, OnOk, length, None};
 ghost use Rattle.cu_base.specs.Refusals.{first_refusal};
 ghost use Rattle.fmp_headers.specs.CapsuleHeader.{image_size};
-ghost use Rattle.capsule_grammar.specs.Bounds.{AreBounds};
+ghost use Rattle.capsule_grammar.specs.Accepted.{AreBounds};
 ghost use Rattle.capsule_grammar.specs.Refusals.{Answers, refusal, fmp_rows, fmp_header_rows, offset_rows, all_offset_rows, image_rows, all_image_rows, list_end, driver_count, image_count, item_count, offset, bound, item};
 
 use crate::header::{front, is_fmp_guid};
@@ -125,6 +125,17 @@ pub fn bound(body: &[u8], k: u32) -> usize
     } else {
         body.len()
     }
+}
+
+/// The bytes of item `k`.
+pub fn item(body: &[u8], k: u32) -> &[u8]
+    requires list { list_end body.now ≤ length body.now }
+    requires bounds { AreBounds body.now }
+    requires there { k < item_count body.now }
+    requires few { k < 2 ^ 17 }
+    ensures { result.now ≡ item body.now k }
+{
+    &body[bound(body, k)..bound(body, k + 1)]
 }
 
 fn check_image(image: &[u8], at: u32) -> Result<(), Refusal>

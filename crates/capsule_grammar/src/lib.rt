@@ -1,9 +1,30 @@
-//! The grammar of a capsule.
+//! The grammar of a capsule (UEFI 2.10, 8.5.3 and 23.3.2): which bytes are the spelling of which capsule, and
+//! what is wrong with all others.
+//!
+//! A capsule that fits and is at most 67,108,864 bytes long has one spelling. No spelling begins another. Each
+//! list of bytes begins with a spelling or is refused at one place for one cause, and never both: these are the
+//! laws of `laws`. `check` takes no memory and copies nothing. `decode` gives the capsule in blobs of its own, and
+//! `encode` writes it.
 #![tactic(auto)]
 
 mod checking;
+mod decoding;
+mod encoding;
+mod faults;
+mod fitting;
 mod header;
+pub mod laws;
+mod reading;
 mod refusal;
+mod sizes;
+#[cfg(test)]
+mod tests;
+mod value;
 
 pub use checking::check;
+pub use decoding::decode;
+pub use encoding::encode;
+pub use faults::{DecodeFault, EncodeFault};
+pub use fitting::fits;
 pub use refusal::{Refusal, Why};
+pub use value::{Body, Capsule, Capsules, FmpBody, Image, Images};

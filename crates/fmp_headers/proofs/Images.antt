@@ -176,3 +176,16 @@ image_parts b v t x r s w n u rest h is e ev et ex er es ew en eu =
 
 pub image_header_again : (h : ImageHeader) (rest : List ℕ) → IsImageHeader h → image_header (image_header_bytes h ++ rest) ≡ Ok h
 image_header_again h rest is = image_parts (image_header_bytes h ++ rest) (bytes_of 4 h.version) h.type_id.bytes (h.index ∷ []) h.reserved (bytes_of 4 h.image_size) (bytes_of 4 h.vendor_size) (instance_bytes h.version h.instance) (support_bytes h.version h.support) rest h is refl refl refl refl refl refl refl refl refl
+
+-- ---- the length of a layout
+
+length_parts : (v t x r s w n u : List ℕ) (k : ℕ) → length v ≡ 4 → length t ≡ 16 → length x ≡ 1 → length r ≡ 3 → length s ≡ 4 → length w ≡ 4 → 32 + length n + length u ≡ k → length (v ++ t ++ x ++ r ++ s ++ w ++ n ++ u) ≡ k
+length_parts v t x r s w n u k lv lt lx lr ls lw ends = simp length-append (omega arith)
+
+pub length-layout : (h : ImageHeader) → length h.type_id.bytes ≡ 16 → length h.reserved ≡ 3 → keeps_version_rules h ≡ true → length (image_header_bytes h) ≡ image_header_size h.version
+length-layout h type_id reserved rules =
+    length_parts (bytes_of 4 h.version) h.type_id.bytes (h.index ∷ []) h.reserved (bytes_of 4 h.image_size) (bytes_of 4 h.vendor_size) (instance_bytes h.version h.instance) (support_bytes h.version h.support) (image_header_size h.version)
+    refl type_id refl reserved refl refl (tail_size h.version h.instance h.support (versions h.version (rules_of h rules).0))
+
+pub length-image_header_bytes : (h : ImageHeader) → IsImageHeader h → length (image_header_bytes h) ≡ image_header_size h.version
+length-image_header_bytes h is = length-layout h is.type_id is.reserved is.rules

@@ -72,6 +72,16 @@ impl ImageHeader {
             && (self.version == 3 || self.support == 1)
     }
 
+    /// The bytes of the header.
+    pub fn byte_length(&self) -> u32
+        requires { IsTrue (keeps_version_rules self.now) }
+        ensures { result ≡ length (image_header_bytes self.now) }
+    {
+        let _type_id: &[u8] = &self.type_id.bytes;
+        let _reserved: &[u8] = &self.reserved;
+        image_header_size(self.version)
+    }
+
     /// Appends the header of its version.
     pub fn write_into(&self, out: &mut Blob) -> Result<(), NoMemory>
         requires { IsTrue (keeps_version_rules self.now) }

@@ -7,6 +7,8 @@ mod devices;
 mod digests;
 mod faults;
 mod keys;
+#[cfg(test)]
+mod tests;
 mod values;
 
 pub use board::read_board;

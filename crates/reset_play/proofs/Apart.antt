@@ -77,7 +77,7 @@ put_apart m name bytes a =
       last_staged = a.last_staged;
     }
 
-settled_apart : (m : Machine) (end : End) (o : Option Element) → AreApart m → AreApart (settled_with m end o)
+pub settled_apart : (m : Machine) (end : End) (o : Option Element) → AreApart m → AreApart (settled_with m end o)
 settled_apart m end None a = a
 settled_apart m end (Some e) a = record { names = a.names; files = a.files; last_file = a.last_file; staged = a.staged; last_staged = a.last_staged }
 

@@ -1,6 +1,6 @@
 -- The units of one delivery stand in order without gaps, so no key stands twice.
-use Rattle.std.proofs.Common.{◌≡◌, ◌≢◌, ℕ, zero, suc, ◌+◌, ◌<◌, ◌≤◌, inl, inr, Bool, true, false, cond, not, ◌&&◌, ◌==◌, List, [], ◌∷◌, ◌++◌, length, map, filter, flat_map, find, drop, refl, arith, sym, ap, ◌∙◌, subst, append_assoc, append-nil, Option, Some, None}
-use Rattle.std.specs.List.{AllByRecursion, enumerate_from}
+use Rattle.std.proofs.Common.{◌≡◌, ℕ, zero, suc, ◌+◌, ◌≤◌, Bool, true, false, cond, not, ◌&&◌, ◌==◌, List, [], ◌∷◌, ◌++◌, length, map, filter, drop, refl, arith, sym, ap, ◌∙◌, subst, append_assoc, append-nil, Some}
+use Rattle.std.specs.List.{enumerate_from}
 use Rattle.std.proofs.lemmas.Bool.Decides.{nat_tests}
 use Rattle.cu_base.specs.declared.time.EfiTime.{EfiTime}
 use Rattle.reset_play.specs.declared.unit.End.{End}
@@ -9,8 +9,8 @@ use Rattle.reset_play.specs.Boots.{Work, closed_with}
 use Rattle.reset_play.specs.Boots.Work.{Settles, Unstages, Does, Prunes, Removes, Clears}
 use Rattle.reset_play.specs.Deliveries.{BootUnit, Delivery, Piece, unit_of}
 use Rattle.reset_play.specs.Laws.{StandInOrder, HaveDistinctKeys}
-use Rattle.reset_play.specs.Spent.{Element, Standing, is_of, is_open, is_closed, spent}
-use Rattle.reset_play.specs.Spent.Standing.{Open, Closed}
+use Rattle.reset_play.specs.Spent.{Element, is_of, is_open, is_closed, spent}
+use Rattle.reset_play.specs.Spent.Standing.{Closed}
 use Rattle.reset_play.proofs.Lists.{NoneOpen}
 
 -- how many keys are of a delivery

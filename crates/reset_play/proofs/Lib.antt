@@ -3,6 +3,7 @@ pub mod Ending
 pub mod Floors
 pub mod Going
 pub mod Keeping
+pub mod Keyed
 pub mod Keys
 pub mod Lists
 pub mod Once

@@ -1,23 +1,18 @@
 -- Each boot does the units of a delivery in order: its work begins where the list of spent units ends.
-use Rattle.std.proofs.Common.{◌≡◌, ℕ, zero, suc, ◌+◌, ◌≤◌, inl, inr, Bool, true, false, cond, not, ◌&&◌, ◌==◌, List, [], ◌∷◌, ◌++◌, length, map, filter, flat_map, find, drop, refl, arith, sym, ap, ◌∙◌, subst, append_assoc, append-nil, Option, Some, None}
+use Rattle.std.proofs.Common.{◌≡◌, ℕ, ◌+◌, Bool, true, false, cond, ◌==◌, List, [], ◌∷◌, ◌++◌, map, flat_map, drop, refl, arith, sym, ◌∙◌, subst, append_assoc}
 use Rattle.std.specs.List.{AllByRecursion, enumerate_from}
 use Rattle.std.proofs.lemmas.Bool.Decides.{nat_tests}
 use Rattle.reset_play.specs.declared.snapshot.StagedPair.{StagedPair}
-use Rattle.reset_play.specs.declared.unit.End.{End}
 use Rattle.reset_play.specs.declared.unit.UnitKey.{UnitKey}
-use Rattle.reset_play.specs.Boots.{Work, Progress, Course, after, after_unit, next, after_steps, boot_start, boot_at, boot_work, work_with, staged_work, folder_work, file_work, file_delivery, files_in_order, pair_work, memory_delivery, staged_in_order, prune_work, course_of, element_of, settled, settled_with, closed_with}
-use Rattle.reset_play.specs.Boots.Work.{Settles, Unstages, Does, Prunes, Removes, Clears}
-use Rattle.reset_play.specs.Boots.Course.{Claim, Close}
-use Rattle.reset_play.specs.Deliveries.{BootUnit, Delivery, pieces, unit_of, units}
+use Rattle.reset_play.specs.Boots.{Work, file_work, file_delivery, pair_work, memory_delivery}
+use Rattle.reset_play.specs.Boots.Work.{Does, Removes}
+use Rattle.reset_play.specs.Deliveries.{BootUnit, pieces, units}
 use Rattle.reset_play.specs.Formats.{Formats}
-use Rattle.reset_play.specs.Laws.{IsHeldEnd, Distinct, AreApart}
+use Rattle.reset_play.specs.Laws.{Distinct}
 use Rattle.reset_play.specs.Machine.{Machine, File}
 use Rattle.reset_play.specs.Order.{inserted, in_order}
-use Rattle.reset_play.specs.Spent.{Element, is_of, is_open, spent}
-use Rattle.reset_play.proofs.Apart.{all_kept, all_imply, all_more, kept_pass, no_longer, apart_keeps, boot_apart, after_apart}
-use Rattle.reset_play.proofs.Going.{Sound}
-use Rattle.reset_play.proofs.Keys.{count, keys_of, Gapless, keys_append, keys_closed, gapless_more, Ahead, Numbered, unit_keys, all_numbered, rest_numbered, do_ahead, count_apart, count_other, spent_all}
-use Rattle.reset_play.proofs.Lists.{Rests, Pends, NoneOpen, find_none, find_last, settled_list}
+use Rattle.reset_play.specs.Spent.{spent}
+use Rattle.reset_play.proofs.Keys.{count, Ahead, Numbered, unit_keys, all_numbered, rest_numbered, do_ahead, count_apart}
 
 -- an order keeps what holds of each item, and that items are distinct
 all_inserted : {X : Type 0} (P : X → Type 0) (before : X → X → Bool) (x : X) (ys : List X) → P x → AllByRecursion P ys → AllByRecursion P (inserted before x ys)
@@ -28,7 +23,7 @@ all_inserted P before x (y ∷ ys) h all =
       | false ↦ (all.0, all_inserted P before x ys h all.1)
     ]
 
-all_ordered : {X : Type 0} (P : X → Type 0) (before : X → X → Bool) (xs : List X) → AllByRecursion P xs → AllByRecursion P (in_order before xs)
+pub all_ordered : {X : Type 0} (P : X → Type 0) (before : X → X → Bool) (xs : List X) → AllByRecursion P xs → AllByRecursion P (in_order before xs)
 all_ordered P before [] all = tt
 all_ordered P before (x ∷ xs) all = all_inserted P before x (in_order before xs) all.0 (all_ordered P before xs all.1)
 
@@ -40,16 +35,16 @@ distinct_inserted same before turn x (y ∷ ys) all d =
       | false ↦ (all_inserted (λ z. same y z ≡ false) before x ys (turn x y all.0) d.0, distinct_inserted same before turn x ys all.1 d.1)
     ]
 
-distinct_ordered : {X : Type 0} (same before : X → X → Bool) → ((a b : X) → same a b ≡ false → same b a ≡ false) → (xs : List X) → Distinct same xs → Distinct same (in_order before xs)
+pub distinct_ordered : {X : Type 0} (same before : X → X → Bool) → ((a b : X) → same a b ≡ false → same b a ≡ false) → (xs : List X) → Distinct same xs → Distinct same (in_order before xs)
 distinct_ordered same before turn [] d = tt
 distinct_ordered same before turn (x ∷ xs) d =
     distinct_inserted same before turn x (in_order before xs) (all_ordered (λ y. same x y ≡ false) before xs d.0) (distinct_ordered same before turn xs d.1)
 
-turned : (a b : ℕ) → (a == b) ≡ false → (b == a) ≡ false
+pub turned : (a b : ℕ) → (a == b) ≡ false → (b == a) ≡ false
 turned a b h = grind (arith, nat_tests)
 
 -- the files' part of a boot
-files_ahead : (f : Formats) (m : Machine) (xs : List File) (keys : List UnitKey) (rest : List Work) → ((ks : List UnitKey) → Ahead ks rest) → Distinct (λ (a b : File). a.serial == b.serial) xs → AllByRecursion (λ (x : File). count 1 x.serial keys ≡ spent m.list x.serial) xs → Ahead keys (flat_map (file_work f m) xs ++ rest)
+pub files_ahead : (f : Formats) (m : Machine) (xs : List File) (keys : List UnitKey) (rest : List Work) → ((ks : List UnitKey) → Ahead ks rest) → Distinct (λ (a b : File). a.serial == b.serial) xs → AllByRecursion (λ (x : File). count 1 x.serial keys ≡ spent m.list x.serial) xs → Ahead keys (flat_map (file_work f m) xs ++ rest)
 files_ahead f m [] keys rest free d all = free keys
 files_ahead f m (x ∷ xs) keys rest free d all =
     let us : List BootUnit = drop (spent m.list x.serial) (units f (file_delivery x) m.board) in
@@ -68,7 +63,7 @@ files_ahead f m (x ∷ xs) keys rest free d all =
     all_both P Q R h (y ∷ ys) p q = (h y p.0 q.0, all_both P Q R h ys p.1 q.1)
 
 -- the staged deliveries' part
-staged_ahead : (f : Formats) (m : Machine) (ps : List StagedPair) (keys : List UnitKey) (rest : List Work) → ((ks : List UnitKey) → ((s : ℕ) → count 1 s ks ≡ count 1 s keys) → Ahead ks rest) → Distinct (λ (a b : StagedPair). a.serial == b.serial) ps → AllByRecursion (λ (p : StagedPair). count 0 p.serial keys ≡ 0) ps → Ahead keys (flat_map (pair_work f m) ps ++ rest)
+pub staged_ahead : (f : Formats) (m : Machine) (ps : List StagedPair) (keys : List UnitKey) (rest : List Work) → ((ks : List UnitKey) → ((s : ℕ) → count 1 s ks ≡ count 1 s keys) → Ahead ks rest) → Distinct (λ (a b : StagedPair). a.serial == b.serial) ps → AllByRecursion (λ (p : StagedPair). count 0 p.serial keys ≡ 0) ps → Ahead keys (flat_map (pair_work f m) ps ++ rest)
 staged_ahead f m [] keys rest free d all = free keys (λ s. refl)
 staged_ahead f m (p ∷ ps) keys rest free d all =
     let us : List BootUnit = units f (memory_delivery f m p) m.board in

@@ -3,7 +3,7 @@ use Rattle.std.proofs.Common.{◌≡◌, inl, inr, List, refl, sym, subst}
 use Rattle.bench_model.specs.Boards.{BoardValue}
 use Rattle.reset_play.specs.Boots.{boot_at}
 use Rattle.reset_play.specs.Formats.{Formats}
-use Rattle.reset_play.specs.Laws.{IsReached, OpenIsLast, AttemptsReachFloor, AreApart, TellNoFault}
+use Rattle.reset_play.specs.Laws.{IsReached, OpenIsLast, AttemptsReachFloor, AreApart, StandInOrder, HaveDistinctKeys, TellNoFault}
 use Rattle.reset_play.specs.Events.{Act, Run, trace_of, machine_after}
 use Rattle.reset_play.specs.Told.{Said}
 use Rattle.reset_play.specs.Machine.{Machine, fresh}
@@ -11,6 +11,8 @@ use Rattle.reset_play.proofs.Apart.{apart_keeps, boot_apart}
 use Rattle.reset_play.proofs.Once.{Quiet, run_once, run_is}
 use Rattle.reset_play.proofs.Going.{Sound, sound_of, boot_going}
 use Rattle.reset_play.proofs.Keeping.{Keeps, run_keeps}
+use Rattle.reset_play.proofs.Keyed.{Orderly, orderly_keeps, boot_orderly}
+use Rattle.reset_play.proofs.Keys.{in_order, distinct_keys}
 use Rattle.reset_play.proofs.Lists.{rests_last, pends_last, reach_floor}
 
 sound_keeps : (f : Formats) → Keeps f Sound
@@ -61,3 +63,20 @@ one f board acts told m r h = run_once f (fresh board) acts told m (fresh_quiet 
 
 pub some : (f : Formats) (board : BoardValue) (acts : List Act) → Run f (fresh board) acts (trace_of f (fresh board) acts) (machine_after f (fresh board) acts)
 some f board acts = run_is f (fresh board) acts
+
+-- the units of each delivery stand in order
+pub orderly : (f : Formats) (board : BoardValue) (m : Machine) → IsReached f board m → Orderly m
+orderly f board m r =
+    let start : Orderly (fresh board) = record {
+      sound = inl (record { none = tt; above = tt });
+      apart = record { names = tt; files = tt; last_file = tt; staged = tt; last_staged = tt };
+      keyed = record { gapless = tt; waiting = tt; below = tt };
+    } in
+    let between : Orderly r.between = run_keeps f Orderly (orderly_keeps f) (fresh board) r.acts r.told r.between start r.run in
+    subst Orderly (sym r.reached) (boot_orderly f r.between r.end r.steps r.held between)
+
+pub stand_in_order : (f : Formats) (board : BoardValue) (m : Machine) → IsReached f board m → StandInOrder m.list
+stand_in_order f board m r = in_order m.list (orderly f board m r).keyed.gapless
+
+pub keys_apart : (f : Formats) (board : BoardValue) (m : Machine) → IsReached f board m → HaveDistinctKeys m.list
+keys_apart f board m r = distinct_keys m.list (orderly f board m r).keyed.gapless

@@ -5,7 +5,7 @@ ghost use Rattle.std.specs.Prelude.{◌≡◌, ◌≤◌, ℕ, List, ◌++◌};
 ghost use Rattle.bench_model.specs.Boards.{BoardValue};
 ghost use Rattle.reset_play.specs.Events.{Act, Run, trace_of, machine_after};
 ghost use Rattle.reset_play.specs.Formats.{Formats};
-ghost use Rattle.reset_play.specs.Laws.{IsReached, OpenIsLast, AttemptsReachFloor, AreApart, TellNoFault};
+ghost use Rattle.reset_play.specs.Laws.{IsReached, OpenIsLast, AttemptsReachFloor, AreApart, StandInOrder, HaveDistinctKeys, TellNoFault};
 ghost use Rattle.reset_play.specs.Machine.{Machine, fresh};
 ghost use Rattle.reset_play.specs.Samples.{sample_text, text_of, redelivery, lower_version, refusals, wrapping, redelivery_lines, lower_version_lines, refusals_lines, wrapping_lines};
 ghost use Rattle.reset_play.specs.Spent.{Element, floor_of};
@@ -30,6 +30,12 @@ pub fn the_last_alone_is_open()
 /// Files have distinct names and distinct serials, and so have staged deliveries; no serial is above the last one.
 pub fn deliveries_are_apart()
     ensures { (f : Formats) (board : BoardValue) (m : Machine) → IsReached f board m → AreApart m }
+{}
+
+/// The units of one delivery stand in order, without gaps from 0, and no key stands twice.
+pub fn units_stand_in_order()
+    ensures order { (f : Formats) (board : BoardValue) (m : Machine) → IsReached f board m → StandInOrder m.list }
+    ensures keys { (f : Formats) (board : BoardValue) (m : Machine) → IsReached f board m → HaveDistinctKeys m.list }
 {}
 
 /// Events that tell no fault tell one trace and leave one machine, and there is such a run of any events.

@@ -1,0 +1,8 @@
+-- The body of an FMP capsule as contracts see it: its parts, without the room of its lists.
+use Rattle.std.specs.Prelude.{ℕ, List}
+use Rattle.capsule_grammar.specs.declared.value.Image.{Image}
+
+pub record FmpValue : Type 0 where
+  pub lead : List ℕ
+  pub drivers : List (List ℕ)
+  pub images : List Image

@@ -1,0 +1,178 @@
+//! Capsules written by hand from the tables of UEFI 2.10, 8.5.3 and 23.3.2.
+
+use crate::{Body, Capsule, DecodeFault, Refusal, Why, check, decode, encode, fits};
+use cu_base::Blob;
+use std::alloc::Global;
+use std::process::Abort;
+use std::test::Fail;
+
+/// CapsuleGuid of FMP capsules.
+const FMP: [u8; 16] = [
+    0xed, 0xd5, 0xcb, 0x6d, 0x2d, 0xe8, 0x44, 0x4c, 0xbd, 0xa1, 0x71, 0x94, 0x19, 0x9a, 0xd9, 0x2a,
+];
+
+/// The version 3 image of 18 bytes that the capsule of 110 bytes has.
+const IMAGE: [u8; 66] = [
+    3, 0, 0, 0, 0xaa, 0xaa, 0xaa, 0xaa, 0, 0, 0, 0, 0, 0, 0, 0, 0, 0, 0, 1, 1, 0, 0, 0, 0x12, 0, 0,
+    0, 0, 0, 0, 0, 0, 0, 0, 0, 0, 0, 0, 0, 0, 0, 0, 0, 0, 0, 0, 0, 0x4d, 0x53, 0x53, 0x31, 0x10, 0,
+    0, 0, 4, 0, 0, 0, 3, 0, 0, 0, 0x50, 0x51,
+];
+
+/// A capsule header of FMP, HeaderSize and CapsuleImageSize, and what stands behind it.
+fn capsule(alloc: Global, head: u8, size: u8, rest: &[u8]) -> Result<Blob, Fail> {
+    let mut bytes = Blob::from_slice(alloc, &FMP)?;
+    bytes.push_slice(&[head, 0, 0, 0, 0, 0, 5, 0, size, 0, 0, 0])?;
+    bytes.push_slice(rest)?;
+    Ok(bytes)
+}
+
+/// One image item of this header version and sizes in a capsule of `size` bytes, at offset 16.
+fn one_item(alloc: Global, size: u8, version: u8, image: u8, rest: &[u8]) -> Result<Blob, Fail> {
+    let mut body = Blob::from_slice(alloc, &[1, 0, 0, 0, 0, 0, 1, 0, 16, 0, 0, 0, 0, 0, 0, 0])?;
+    body.push_slice(&[version, 0, 0, 0])?;
+    body.push_slice(&[0; 16])?;
+    body.push_slice(&[1, 0, 0, 0, image, 0, 0, 0, 0, 0, 0, 0])?;
+    body.push_slice(rest)?;
+    capsule(alloc, 28, size, body.as_slice())
+}
+
+fn accepted(rt: &impl Abort, bytes: &Blob, size: usize) {
+    assert_eq!(rt; check(bytes.as_slice()), Ok(size));
+}
+
+fn refused(rt: &impl Abort, bytes: &[u8], at: u32, why: Why) {
+    assert_eq!(rt; check(bytes), Err(Refusal { at, why }));
+}
+
+#[test]
+fn capsules_without_items(rt: HostRuntime) -> Result<(), Fail> {
+    let alloc = rt.alloc();
+    let smallest = capsule(alloc, 28, 36, &[1, 0, 0, 0, 0, 0, 0, 0])?;
+    accepted(&rt, &smallest, 36);
+    let with_ext = capsule(alloc, 32, 40, &[0, 0, 0, 0, 1, 0, 0, 0, 0, 0, 0, 0])?;
+    accepted(&rt, &with_ext, 40);
+    let version_2 = capsule(alloc, 28, 36, &[2, 0, 0, 0, 0, 0, 0, 0])?;
+    refused(&rt, version_2.as_slice(), 28, Why::BadFmpVersion);
+    let cut_list = capsule(alloc, 28, 36, &[1, 0, 0, 0, 1, 0, 0, 0])?;
+    refused(&rt, cut_list.as_slice(), 36, Why::Short);
+    Ok(())
+}
+
+#[test]
+fn equal_offsets_are_refused_before_any_item(rt: HostRuntime) -> Result<(), Fail> {
+    let mut body = Blob::from_slice(rt.alloc(), &[1, 0, 0, 0, 0, 0, 2, 0])?;
+    body.push_slice(&[24, 0, 0, 0, 0, 0, 0, 0, 24, 0, 0, 0, 0, 0, 0, 0])?;
+    body.push_slice(&[0; 32])?;
+    let bytes = capsule(rt.alloc(), 28, 84, body.as_slice())?;
+    refused(&rt, bytes.as_slice(), 44, Why::OffsetsNotRising);
+    Ok(())
+}
+
+#[test]
+fn one_image_of_each_version(rt: HostRuntime) -> Result<(), Fail> {
+    let alloc = rt.alloc();
+    accepted(&rt, &one_item(alloc, 76, 1, 0, &[])?, 76);
+    accepted(&rt, &one_item(alloc, 84, 2, 0, &[0; 8])?, 84);
+    accepted(&rt, &one_item(alloc, 92, 3, 0, &[0; 16])?, 92);
+    let version_4 = one_item(alloc, 92, 4, 0, &[0; 16])?;
+    refused(&rt, version_4.as_slice(), 44, Why::BadImageVersion);
+    let outside = one_item(alloc, 92, 3, 1, &[0; 16])?;
+    refused(&rt, outside.as_slice(), 68, Why::ImageOutside);
+    let short = one_item(alloc, 91, 3, 0, &[0; 15])?;
+    refused(&rt, short.as_slice(), 44, Why::Short);
+    Ok(())
+}
+
+/// The refusal of the first `n` bytes.
+fn prefix_refused(rt: &impl Abort, bytes: &[u8], n: usize, at: u32, why: Why) {
+    match bytes.get(..n) {
+        Some(front) => refused(rt, front, at, why),
+        None => refused(rt, bytes, at, why),
+    }
+}
+
+#[test]
+fn prefixes_are_refused(rt: HostRuntime) -> Result<(), Fail> {
+    let mut body = Blob::from_slice(
+        rt.alloc(),
+        &[1, 0, 0, 0, 0, 0, 1, 0, 16, 0, 0, 0, 0, 0, 0, 0],
+    )?;
+    body.push_slice(&IMAGE)?;
+    let bytes = capsule(rt.alloc(), 28, 110, body.as_slice())?;
+    accepted(&rt, &bytes, 110);
+    for n in 0..28usize {
+        prefix_refused(&rt, bytes.as_slice(), n, 0, Why::Short);
+    }
+    for n in 28..110usize {
+        prefix_refused(&rt, bytes.as_slice(), n, 24, Why::BadImageSize);
+    }
+    Ok(())
+}
+
+/// The bytes of a capsule are those that it was read from.
+fn written_again(
+    rt: &impl Abort,
+    capsule: &Capsule,
+    alloc: Global,
+    bytes: &[u8],
+) -> Result<(), Fail> {
+    let fit = fits(capsule);
+    assert!(rt; fit);
+    let again = encode(alloc, capsule)?;
+    assert_eq!(rt; again.as_slice(), bytes);
+    Ok(())
+}
+
+#[test]
+fn a_lead_and_a_pad_are_kept(rt: HostRuntime) -> Result<(), Fail> {
+    let alloc = rt.alloc();
+    let mut body = Blob::from_slice(
+        alloc,
+        &[1, 0, 0, 0, 0, 0, 1, 0, 18, 0, 0, 0, 0, 0, 0, 0, 7, 8],
+    )?;
+    body.push_slice(&[1, 0, 0, 0])?;
+    body.push_slice(&[0; 28])?;
+    body.push_slice(&[4, 5, 6])?;
+    let bytes = capsule(alloc, 28, 81, body.as_slice())?;
+    let (read, size) = decode(alloc, bytes.as_slice())?;
+    assert_eq!(rt; size, 81);
+    written_again(&rt, &read, alloc, bytes.as_slice())?;
+    if let Body::Fmp(fmp) = &read.body {
+        assert_eq!(rt; fmp.lead.as_slice(), [7, 8].as_slice());
+        let pad = fmp.images.at(0).map(|i| i.pad.len());
+        assert_eq!(rt; pad, Some(3));
+    } else {
+        assert!(rt; false);
+    }
+    Ok(())
+}
+
+#[test]
+fn another_guid_has_its_bytes(rt: HostRuntime) -> Result<(), Fail> {
+    let mut bytes = Blob::from_slice(rt.alloc(), &[9; 16])?;
+    bytes.push_slice(&[30, 0, 0, 0, 1, 2, 3, 4, 33, 0, 0, 0, 5, 5, 6, 6, 6, 99])?;
+    let (read, size) = decode(rt.alloc(), bytes.as_slice())?;
+    assert_eq!(rt; size, 33);
+    assert_eq!(rt; read.ext.as_slice(), [5, 5].as_slice());
+    assert_eq!(rt; check(bytes.as_slice()), Ok(33));
+    match bytes.as_slice().get(..33) {
+        Some(front) => written_again(&rt, &read, rt.alloc(), front),
+        None => Ok(()),
+    }
+}
+
+#[test]
+fn refusals_reach_the_caller(rt: HostRuntime) {
+    match decode(rt.alloc(), &[0; 27]) {
+        Err(DecodeFault::Refused(refusal)) => {
+            assert_eq!(rt;
+                refusal,
+                Refusal {
+                    at: 0,
+                    why: Why::Short
+                }
+            );
+        }
+        _ => assert!(rt; false),
+    }
+}
