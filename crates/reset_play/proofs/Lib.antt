@@ -12,4 +12,5 @@ pub mod Reached
 pub mod SampleTexts
 pub mod ScriptLemmas
 pub mod ScriptNames
+pub mod ScriptSpelled
 pub mod TextLemmas

@@ -12,6 +12,7 @@ pub mod Samples
 pub mod ScriptAnswers
 pub mod ScriptEvents
 pub mod ScriptInputs
+pub mod ScriptSpelling
 pub mod ScriptText
 pub mod ScriptWords
 pub mod Spent

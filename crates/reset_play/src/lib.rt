@@ -24,7 +24,7 @@ pub use limits::{MAX_FILES, MAX_MEMORY_BYTES, MAX_SEGMENTS, MAX_STAGED};
 pub use report::Report;
 pub use script::{
     MAX_COUNT, MAX_EVENTS, MAX_FILE_NAME, MAX_INPUT_NAME, MAX_POKE_BYTES, ScriptFault, ScriptKind,
-    read_script, script_inputs,
+    read_script, script_inputs, scripts_read_back,
 };
 pub use snapshot::{CapsuleResult, EsrtEntry, FmpResult, FolderFile, Snapshot, StagedPair};
 pub use text::trace_text;

@@ -3,6 +3,7 @@
 mod events;
 mod faults;
 mod inputs;
+mod laws;
 mod limits;
 mod lines;
 mod names;
@@ -14,5 +15,6 @@ mod tests;
 
 pub use faults::{ScriptFault, ScriptKind};
 pub use inputs::script_inputs;
+pub use laws::scripts_read_back;
 pub use limits::{MAX_COUNT, MAX_EVENTS, MAX_FILE_NAME, MAX_INPUT_NAME, MAX_POKE_BYTES};
 pub use lines::read_script;
