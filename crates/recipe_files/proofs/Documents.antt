@@ -1,12 +1,12 @@
 -- Texts and their documents.
-use Rattle.std.proofs.Common.{◌≡◌, ℕ, Bool, true, false, List, Option, None, Some, Result, Ok, Err, refl, sym, ◌∙◌}
+use Rattle.std.proofs.Common.{◌≡◌, ℕ, Bool, true, false, List, Option, None, Some, Err, refl}
 use Rattle.std.specs.Str.{IsUtf8, is_utf8}
 use Rattle.std.proofs.lemmas.Str.{IsUtf8-from_is_utf8, is_utf8-from_IsUtf8}
 use Rattle.toml.specs.Data.{Members}
 use Rattle.toml.specs.Parse.{parse_document}
 use Rattle.recipe_files.specs.declared.faults.Fault.{Fault}
 use Rattle.recipe_files.specs.Keys.{key_name}
-use Rattle.recipe_files.specs.Boards.{board_of, board_test, document, document_test}
+use Rattle.recipe_files.specs.Boards.{board_of, document, document_test}
 
 pub document_of_text : (bytes : List ℕ) → IsUtf8 bytes → document bytes ≡ parse_document bytes
 document_of_text bytes text = rw (is_utf8-from_IsUtf8 bytes text)

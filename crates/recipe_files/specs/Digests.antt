@@ -1,5 +1,5 @@
 -- A digest in a board's text: its 32 bytes in 64 lower-case hexadecimal digits.
-use Rattle.std.specs.Prelude.{ℕ, Bool, ◌||◌, List, replicate, Option, None, Some, option_map, is_some, unwrap_or, Result, Ok, Err, if◌then◌else◌}
+use Rattle.std.specs.Prelude.{ℕ, Bool, ◌||◌, List, replicate, Option, None, option_map, is_some, unwrap_or, if◌then◌else◌}
 use Rattle.std.specs.List.{list_all}
 use Rattle.std.specs.Result.{result_ok}
 use Rattle.hex.specs.Hex.{decode_sized}

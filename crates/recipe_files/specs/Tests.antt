@@ -1,6 +1,6 @@
 -- The test of a key: it is there, its value is of the kind that the key takes, and within its limits.
-use Rattle.std.specs.Prelude.{ℕ, ℤ, pos, negsuc, Bool, false, ◌&&◌, List, length, nat_le, Option, None, Some, option_map, is_ok, if◌then◌else◌}
-use Rattle.toml.specs.Data.{Data, Items, Members, as_array, as_integer, as_str, get_member}
+use Rattle.std.specs.Prelude.{ℕ, ℤ, pos, negsuc, Bool, false, ◌&&◌, length, nat_le, Option, None, Some, option_map, is_ok, if◌then◌else◌}
+use Rattle.toml.specs.Data.{Data, Members, as_array, as_integer, as_str, get_member}
 use Rattle.cu_base.specs.Guids.{guid_of_text}
 use Rattle.bench_model.specs.Names.{is_device_name}
 use Rattle.recipe_files.specs.declared.faults.BadKind.{BadKind}
