@@ -37,7 +37,13 @@ impl EfiTime {
     pub fn from_text(text: &str) -> Result<EfiTime, BaseFault>
         ensures value { result ≡ time_of_text text.now }
     {
-        let text = text.as_bytes();
+        EfiTime::from_ascii(text.as_bytes())
+    }
+
+    /// The same of the bytes of a text.
+    pub fn from_ascii(text: &[u8]) -> Result<EfiTime, BaseFault>
+        ensures value { result ≡ time_of_text text.now }
+    {
         if !has_form(text) {
             return Err(BaseFault::BadTime);
         }

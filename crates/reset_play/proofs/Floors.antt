@@ -1,6 +1,6 @@
 -- The floor in force along the list of spent units.
 use Rattle.std.proofs.Common.{ℕ, ◌≤◌, Bool, true, false, cond, List, [], ◌∷◌, ◌++◌, map, arith, filter}
-use Rattle.reset_play.specs.Board.{Board}
+use Rattle.bench_model.specs.Boards.{BoardValue}
 use Rattle.reset_play.specs.Spent.{Element, floor_of, factory_floor, greatest}
 
 -- a number is at most the greatest of it and others
@@ -18,5 +18,5 @@ more n p (e ∷ es) rest =
       | false ↦ h
     ]
 
-pub never_falls : (board : Board) (before rest : List Element) (d : ℕ) → floor_of board before d ≤ floor_of board (before ++ rest) d
+pub never_falls : (board : BoardValue) (before rest : List Element) (d : ℕ) → floor_of board before d ≤ floor_of board (before ++ rest) d
 never_falls board before rest d = more (factory_floor board d) _ before rest

@@ -1,5 +1,15 @@
+pub mod Apart
+pub mod Ending
 pub mod Floors
 pub mod Going
 pub mod Keeping
+pub mod Keyed
+pub mod Keys
 pub mod Lists
+pub mod Once
+pub mod Ordered
 pub mod Reached
+pub mod SampleTexts
+pub mod ScriptLemmas
+pub mod ScriptNames
+pub mod TextLemmas

@@ -2,7 +2,7 @@
 use Rattle.std.proofs.Common.{◌≡◌, ◌≤◌, true, false, cond, List, [], ◌∷◌, ◌++◌, map, find, refl, IsTrue, sym, ap, ◌∙◌, subst, append_assoc, append-nil, Some, None}
 use Rattle.cu_base.specs.declared.time.EfiTime.{EfiTime}
 use Rattle.reset_play.specs.declared.unit.End.{End}
-use Rattle.reset_play.specs.Board.{Board}
+use Rattle.bench_model.specs.Boards.{BoardValue}
 use Rattle.reset_play.specs.Boots.{closed_with}
 use Rattle.reset_play.specs.Laws.{IsHeldEnd, OpenIsLast, AttemptsReachFloor}
 use Rattle.reset_play.specs.Spent.{Element, Standing, is_open, is_attempt, floor_of}
@@ -14,15 +14,15 @@ NoneOpen [] = Unit {0}
 NoneOpen (e ∷ es) = (is_open e ≡ false) × NoneOpen es
 
 -- each attempt has at least the version of the floor at its place, behind the elements before
-abbrev pub Above : Board → List Element → List Element → Type 0
+abbrev pub Above : BoardValue → List Element → List Element → Type 0
 Above board before [] = Unit {0}
 Above board before (e ∷ es) = (IsTrue (is_attempt e) → floor_of board before e.key.device ≤ e.version) × Above board (before ++ e ∷ []) es
 
-pub record Rests (board : Board) (list : List Element) : Type 0 where
+pub record Rests (board : BoardValue) (list : List Element) : Type 0 where
   pub none : NoneOpen list
   pub above : Above board [] list
 
-pub record Pends (board : Board) (list : List Element) : Type 0 where
+pub record Pends (board : BoardValue) (list : List Element) : Type 0 where
   pub front : List Element
   pub last : Element
   pub parts : list ≡ front ++ last ∷ []
@@ -31,25 +31,25 @@ pub record Pends (board : Board) (list : List Element) : Type 0 where
   pub above : Above board [] list
 
 -- an element behind a list of elements above their floors
-pub above_more : (board : Board) (before list : List Element) (e : Element) → Above board before list → (IsTrue (is_attempt e) → floor_of board (before ++ list) e.key.device ≤ e.version) → Above board before (list ++ e ∷ [])
+pub above_more : (board : BoardValue) (before list : List Element) (e : Element) → Above board before list → (IsTrue (is_attempt e) → floor_of board (before ++ list) e.key.device ≤ e.version) → Above board before (list ++ e ∷ [])
 above_more board before [] e above h = (subst (λ b. IsTrue (is_attempt e) → floor_of board b e.key.device ≤ e.version) (append-nil before) h, tt)
 above_more board before (x ∷ xs) e above h =
     (above.0, above_more board (before ++ x ∷ []) xs e above.1 (subst (λ b. IsTrue (is_attempt e) → floor_of board b e.key.device ≤ e.version) (sym (append_assoc before (x ∷ []) xs)) h))
 
 -- what is known of the last of such a list
-pub above_last : (board : Board) (before list : List Element) (e : Element) → Above board before (list ++ e ∷ []) → Above board before list × (IsTrue (is_attempt e) → floor_of board (before ++ list) e.key.device ≤ e.version)
+pub above_last : (board : BoardValue) (before list : List Element) (e : Element) → Above board before (list ++ e ∷ []) → Above board before list × (IsTrue (is_attempt e) → floor_of board (before ++ list) e.key.device ≤ e.version)
 above_last board before [] e above = (tt, subst (λ b. IsTrue (is_attempt e) → floor_of board b e.key.device ≤ e.version) (sym (append-nil before)) above.0)
 above_last board before (x ∷ xs) e above =
     let rest = above_last board (before ++ x ∷ []) xs e above.1 in
     ((above.0, rest.0), subst (λ b. IsTrue (is_attempt e) → floor_of board b e.key.device ≤ e.version) (append_assoc before (x ∷ []) xs) rest.1)
 
 -- what is known at each place
-pub above_at : (board : Board) (before list rest : List Element) (e : Element) → Above board before (list ++ e ∷ rest) → IsTrue (is_attempt e) → floor_of board (before ++ list) e.key.device ≤ e.version
+pub above_at : (board : BoardValue) (before list rest : List Element) (e : Element) → Above board before (list ++ e ∷ rest) → IsTrue (is_attempt e) → floor_of board (before ++ list) e.key.device ≤ e.version
 above_at board before [] rest e above h = subst (λ b. floor_of board b e.key.device ≤ e.version) (sym (append-nil before)) (above.0 h)
 above_at board before (x ∷ xs) rest e above h =
     subst (λ b. floor_of board b e.key.device ≤ e.version) (append_assoc before (x ∷ []) xs) (above_at board (before ++ x ∷ []) xs rest e above.1 h)
 
-pub reach_floor : (board : Board) (list : List Element) → Above board [] list → AttemptsReachFloor board list
+pub reach_floor : (board : BoardValue) (list : List Element) → Above board [] list → AttemptsReachFloor board list
 reach_floor board list above before rest e is h = above_at board [] before rest e (subst (Above board []) is above) h
 
 -- none open: an element of it is not
@@ -65,10 +65,10 @@ open_at [] (r ∷ rs) (x ∷ front) e last is none h = cc (none.0)
 open_at (b ∷ bs) rest [] e last is none h = elim bs as (λ xs. b ∷ (xs ++ e ∷ rest) ≡ last ∷ [] → rest ≡ []) [ [] ↦ λ k. cc | x ∷ xs ↦ λ k. cc ] is
 open_at (b ∷ bs) rest (x ∷ front) e last is none h = let k : bs ++ e ∷ rest ≡ front ++ last ∷ [] = cc in open_at bs rest front e last k none.1 h
 
-pub rests_last : (board : Board) (list : List Element) → Rests board list → OpenIsLast list
+pub rests_last : (board : BoardValue) (list : List Element) → Rests board list → OpenIsLast list
 rests_last board list r before rest e is h = let none : is_open e ≡ false = none_at before rest e (subst NoneOpen is r.none) in cc
 
-pub pends_last : (board : Board) (list : List Element) → Pends board list → OpenIsLast list
+pub pends_last : (board : BoardValue) (list : List Element) → Pends board list → OpenIsLast list
 pends_last board list p before rest e is h = open_at before rest p.front e p.last (sym is ∙ p.parts) p.none h
 
 -- closing what is open leaves a list with nothing open as it is, and closes the last element of the other
@@ -111,7 +111,7 @@ attempt_open e h = by_standing e.standing h
     by_standing (Closed end at) k = cc
 
 -- the list with its open element closed
-pub settled_list : (board : Board) (list : List Element) (end : End) (now : EfiTime) → IsHeldEnd end → Pends board list → Rests board (map (closed_with end now) list)
+pub settled_list : (board : BoardValue) (list : List Element) (end : End) (now : EfiTime) → IsHeldEnd end → Pends board list → Rests board (map (closed_with end now) list)
 settled_list board list end now held p =
     let is : map (closed_with end now) list ≡ p.front ++ closed p.last end now ∷ [] = ap (map (closed_with end now)) p.parts ∙ closed_more end now p.front p.last p.none p.is_last in
     let above = above_last board [] p.front p.last (subst (Above board []) p.parts p.above) in

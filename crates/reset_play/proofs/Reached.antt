@@ -1,12 +1,18 @@
 -- The laws of every machine that is reached.
-use Rattle.std.proofs.Common.{inl, inr, sym, subst}
-use Rattle.reset_play.specs.Board.{Board}
+use Rattle.std.proofs.Common.{◌≡◌, inl, inr, List, refl, sym, subst}
+use Rattle.bench_model.specs.Boards.{BoardValue}
 use Rattle.reset_play.specs.Boots.{boot_at}
 use Rattle.reset_play.specs.Formats.{Formats}
-use Rattle.reset_play.specs.Laws.{IsReached, OpenIsLast, AttemptsReachFloor}
+use Rattle.reset_play.specs.Laws.{IsReached, OpenIsLast, AttemptsReachFloor, AreApart, StandInOrder, HaveDistinctKeys, TellNoFault}
+use Rattle.reset_play.specs.Events.{Act, Run, trace_of, machine_after}
+use Rattle.reset_play.specs.Told.{Said}
 use Rattle.reset_play.specs.Machine.{Machine, fresh}
+use Rattle.reset_play.proofs.Apart.{apart_keeps, boot_apart}
+use Rattle.reset_play.proofs.Once.{Quiet, run_once, run_is}
 use Rattle.reset_play.proofs.Going.{Sound, sound_of, boot_going}
 use Rattle.reset_play.proofs.Keeping.{Keeps, run_keeps}
+use Rattle.reset_play.proofs.Keyed.{Orderly, orderly_keeps, boot_orderly}
+use Rattle.reset_play.proofs.Keys.{in_order, distinct_keys}
 use Rattle.reset_play.proofs.Lists.{rests_last, pends_last, reach_floor}
 
 sound_keeps : (f : Formats) → Keeps f Sound
@@ -22,7 +28,7 @@ sound_keeps f = record {
   boots = λ m h j held p. sound_of (boot_at f m h j).machine (boot_at f m h j).left (boot_going f m h j held p);
 }
 
-pub reached_sound : (f : Formats) (board : Board) (m : Machine) → IsReached f board m → Sound m
+pub reached_sound : (f : Formats) (board : BoardValue) (m : Machine) → IsReached f board m → Sound m
 reached_sound f board m r =
     let start : Sound (fresh board) = inl (record { none = tt; above = tt }) in
     let between : Sound r.between = run_keeps f Sound (sound_keeps f) (fresh board) r.acts r.told r.between start r.run in
@@ -36,8 +42,41 @@ floor_of_attempts : (m : Machine) → Sound m → AttemptsReachFloor m.board m.l
 floor_of_attempts m (inl r) = reach_floor m.board m.list r.above
 floor_of_attempts m (inr p) = reach_floor m.board m.list p.above
 
-pub open_last : (f : Formats) (board : Board) (m : Machine) → IsReached f board m → OpenIsLast m.list
+pub open_last : (f : Formats) (board : BoardValue) (m : Machine) → IsReached f board m → OpenIsLast m.list
 open_last f board m r = last_of m (reached_sound f board m r)
 
-pub attempts : (f : Formats) (board : Board) (m : Machine) → IsReached f board m → AttemptsReachFloor m.board m.list
+pub attempts : (f : Formats) (board : BoardValue) (m : Machine) → IsReached f board m → AttemptsReachFloor m.board m.list
 attempts f board m r = floor_of_attempts m (reached_sound f board m r)
+
+pub apart : (f : Formats) (board : BoardValue) (m : Machine) → IsReached f board m → AreApart m
+apart f board m r =
+    let start : AreApart (fresh board) = record { names = tt; files = tt; last_file = tt; staged = tt; last_staged = tt } in
+    let between : AreApart r.between = run_keeps f AreApart (apart_keeps f) (fresh board) r.acts r.told r.between start r.run in
+    subst AreApart (sym r.reached) (boot_apart f r.between r.end r.steps between)
+
+-- a fresh board is quiet
+pub fresh_quiet : (board : BoardValue) → Quiet (fresh board)
+fresh_quiet board = record { rests = record { none = tt; above = tt }; well = refl }
+
+pub one : (f : Formats) (board : BoardValue) (acts : List Act) (told : List Said) (m : Machine) → Run f (fresh board) acts told m → TellNoFault told → (told ≡ trace_of f (fresh board) acts) × (m ≡ machine_after f (fresh board) acts)
+one f board acts told m r h = run_once f (fresh board) acts told m (fresh_quiet board) r h
+
+pub some : (f : Formats) (board : BoardValue) (acts : List Act) → Run f (fresh board) acts (trace_of f (fresh board) acts) (machine_after f (fresh board) acts)
+some f board acts = run_is f (fresh board) acts
+
+-- the units of each delivery stand in order
+pub orderly : (f : Formats) (board : BoardValue) (m : Machine) → IsReached f board m → Orderly m
+orderly f board m r =
+    let start : Orderly (fresh board) = record {
+      sound = inl (record { none = tt; above = tt });
+      apart = record { names = tt; files = tt; last_file = tt; staged = tt; last_staged = tt };
+      keyed = record { gapless = tt; waiting = tt; below = tt };
+    } in
+    let between : Orderly r.between = run_keeps f Orderly (orderly_keeps f) (fresh board) r.acts r.told r.between start r.run in
+    subst Orderly (sym r.reached) (boot_orderly f r.between r.end r.steps r.held between)
+
+pub stand_in_order : (f : Formats) (board : BoardValue) (m : Machine) → IsReached f board m → StandInOrder m.list
+stand_in_order f board m r = in_order m.list (orderly f board m r).keyed.gapless
+
+pub keys_apart : (f : Formats) (board : BoardValue) (m : Machine) → IsReached f board m → HaveDistinctKeys m.list
+keys_apart f board m r = distinct_keys m.list (orderly f board m r).keyed.gapless

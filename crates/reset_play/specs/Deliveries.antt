@@ -5,7 +5,8 @@ use Rattle.cu_base.specs.declared.guid.Guid.{Guid}
 use Rattle.reset_play.specs.declared.unit.Kind.{Kind}
 use Rattle.reset_play.specs.declared.unit.Kind.TheVariants.{Try, Skip, NoTarget, Bad}
 use Rattle.reset_play.specs.declared.unit.UnitKey.{UnitKey}
-use Rattle.reset_play.specs.Board.{Board, Device}
+use Rattle.bench_model.specs.Boards.{BoardValue}
+use Rattle.bench_model.specs.Devices.{DeviceValue}
 use Rattle.reset_play.specs.Formats.{ItemHead, Item, Capsule, Formats}
 
 -- a list of bytes with its route (0 is memory, 1 is disk), its serial and its file's name, which is empty for memory.
@@ -44,53 +45,66 @@ is_passed_over c = not (is_same_guid c.guid fmp_guid) || not (c.drivers == 0) ||
 
 -- whether a device is a target: the same type and index and, unless the item's instance is 0 or its header has
 -- version 1, the same instance
-abbrev pub is_target : ItemHead → Device → Bool
+abbrev pub is_target : ItemHead → DeviceValue → Bool
 is_target h d = is_same_guid h.type_id d.type_id && h.index == d.index
     && (h.instance == 0 || h.version == 1 || h.instance == d.instance)
 
 -- the numbers of the targets of an item, in board order
-abbrev pub targets : ItemHead → Board → List ℕ
+abbrev pub targets : ItemHead → BoardValue → List ℕ
 targets h board = map (λ p. p.0) (filter (λ p. is_target h p.1) (enumerate_from 0 board.devices))
 
--- the key of a unit, as the first of its delivery
-abbrev pub key_of : Delivery → (capsule item device : ℕ) → UnitKey
-key_of d capsule item device = record {
-  ticket = record { route = d.route; capsule = capsule; item = item; serial = d.serial };
-  unit = 0;
-  device = device;
-  name = d.name;
-}
+-- a unit before its delivery and its number are known: capsule and item that it is of, which are 0 where it has none, and
+-- its device, 255 where it has none
+pub record Piece : Type 0 where
+  pub kind : Kind
+  pub capsule_number : ℕ
+  pub item_number : ℕ
+  pub device : ℕ
+  pub capsule : Guid
+  pub head : ItemHead
+  pub image : List ℕ
 
 -- the units of an item: one try for each target, or that it has none
-abbrev pub item_units : Delivery → Board → ℕ → Capsule → ℕ × Item → List BootUnit
-item_units d board n c (k, item) = units_on (targets item.head board)
+abbrev pub item_pieces : BoardValue → ℕ → Guid → ℕ × Item → List Piece
+item_pieces board n guid (k, item) = pieces_on (targets item.head board)
   where
-    unit : Kind → ℕ → BootUnit
-    unit kind device = record { kind = kind; key = key_of d n k device; capsule = c.guid; head = item.head; image = item.image }
+    piece : Kind → ℕ → Piece
+    piece kind device = record { kind = kind; capsule_number = n; item_number = k; device = device; capsule = guid; head = item.head; image = item.image }
 
-    units_on : List ℕ → List BootUnit
-    units_on [] = unit NoTarget 255 ∷ []
-    units_on (t ∷ ts) = map (unit Try) (t ∷ ts)
+    pieces_on : List ℕ → List Piece
+    pieces_on [] = piece NoTarget 255 ∷ []
+    pieces_on (t ∷ ts) = map (piece Try) (t ∷ ts)
 
 -- the units of a capsule: one skip, or those of its items
-abbrev pub capsule_units : Delivery → Board → ℕ × Capsule → List BootUnit
-capsule_units d board (n, c) =
+abbrev pub capsule_pieces : BoardValue → ℕ × Capsule → List Piece
+capsule_pieces board (n, c) =
     if is_passed_over c
-    then record { kind = Skip; key = key_of d n 0 255; capsule = c.guid; head = no_head; image = [] } ∷ []
-    else flat_map (item_units d board n c) (enumerate_from 0 c.items)
+    then record { kind = Skip; capsule_number = n; item_number = 0; device = 255; capsule = c.guid; head = no_head; image = [] } ∷ []
+    else flat_map (item_pieces board n c.guid) (enumerate_from 0 c.items)
 
 -- the one unit of a delivery whose bytes are refused
-abbrev pub bad_unit : Delivery → BootUnit
-bad_unit d = record { kind = Bad; key = key_of d 0 0 255; capsule = no_guid; head = no_head; image = [] }
+abbrev pub bad_piece : Piece
+bad_piece = record { kind = Bad; capsule_number = 0; item_number = 0; device = 255; capsule = no_guid; head = no_head; image = [] }
 
-abbrev pub units_in : Delivery → Board → Option (List Capsule) → List BootUnit
-units_in d board None = bad_unit d ∷ []
-units_in d board (Some capsules) = flat_map (capsule_units d board) (enumerate_from 0 capsules)
+abbrev pub pieces : BoardValue → Option (List Capsule) → List Piece
+pieces board None = bad_piece ∷ []
+pieces board (Some capsules) = flat_map (capsule_pieces board) (enumerate_from 0 capsules)
 
--- a unit with its number in its delivery
-abbrev pub numbered : ℕ × BootUnit → BootUnit
-numbered (n, u) = record u { key = record u.key { unit = n } }
+-- a unit of a delivery, with its number in it
+abbrev pub unit_of : Delivery → ℕ × Piece → BootUnit
+unit_of d (n, p) = record {
+  kind = p.kind;
+  key = record {
+    ticket = record { route = d.route; capsule = p.capsule_number; item = p.item_number; serial = d.serial };
+    unit = n;
+    device = p.device;
+    name = d.name;
+  };
+  capsule = p.capsule;
+  head = p.head;
+  image = p.image;
+}
 
 -- the units of a delivery, in order
-abbrev pub units : Formats → Delivery → Board → List BootUnit
-units f d board = map numbered (enumerate_from 0 (units_in d board (option_and_then f.capsules d.bytes)))
+abbrev pub units : Formats → Delivery → BoardValue → List BootUnit
+units f d board = map (unit_of d) (enumerate_from 0 (pieces board (option_and_then f.capsules d.bytes)))

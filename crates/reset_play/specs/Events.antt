@@ -6,6 +6,8 @@ use Rattle.cu_base.specs.declared.time.EfiTime.{EfiTime}
 use Rattle.fmp_headers.specs.declared.capsule.CapsuleHeader.{CapsuleHeader}
 use Rattle.fmp_headers.specs.declared.faults.HeaderFault.{HeaderFault}
 use Rattle.fmp_headers.specs.CapsuleHeader.{capsule_header}
+use Rattle.reset_play.specs.declared.event.Event.{Event}
+use Rattle.reset_play.specs.declared.event.Event.TheVariants as events
 use Rattle.reset_play.specs.declared.limits.TheConstants.{MAX_FILES, MAX_STAGED, MAX_SEGMENTS, MAX_MEMORY_BYTES}
 use Rattle.reset_play.specs.declared.trace.BootEnd.{BootEnd}
 use Rattle.reset_play.specs.declared.trace.BootEnd.TheVariants as ends
@@ -34,6 +36,20 @@ pub data Act : Type 0 where
   Fail : Act  -- of a fault to come
   Reset : (cold : Bool) → Act
   Show : Act
+
+-- an event with the bytes of the input that it names
+abbrev pub act_of : (List ℕ → List ℕ) → Event → Act
+act_of bytes_of (events.Time moment) = Time moment
+act_of bytes_of (events.Drop file input) = Drop file (bytes_of input)
+act_of bytes_of events.Signal = Signal
+act_of bytes_of (events.Lay at input) = Lay at (bytes_of input)
+act_of bytes_of (events.Poke at bytes) = Lay at bytes
+act_of bytes_of (events.Stage at) = Stage at
+act_of bytes_of events.Boot = Boot
+act_of bytes_of (events.Arm after choice) = Arm
+act_of bytes_of (events.Fail nth) = Fail
+act_of bytes_of (events.Reset cold) = Reset cold
+act_of bytes_of events.Show = Show
 
 -- what an event may tell, with the machine that it then leaves
 abbrev pub Outcome : Type 0

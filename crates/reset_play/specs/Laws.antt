@@ -1,15 +1,17 @@
 -- What holds of every machine that is reached from a fresh board, whatever is delivered and whatever fails.
-use Rattle.std.specs.Prelude.{◌≡◌, ℕ, ◌≤◌, List, [], ◌∷◌, ◌++◌, IsTrue}
+use Rattle.std.specs.Prelude.{◌≡◌, ◌≢◌, ℕ, ◌≤◌, Bool, false, ◌==◌, List, [], ◌∷◌, ◌++◌, IsTrue, length, filter}
+use Rattle.std.specs.List.{AllByRecursion}
 use Rattle.reset_play.specs.declared.trace.BootEnd.{BootEnd}
 use Rattle.reset_play.specs.declared.trace.BootEnd.TheVariants as ends
 use Rattle.reset_play.specs.declared.unit.End.{End}
 use Rattle.reset_play.specs.declared.unit.End.TheVariants.{Refused, Sealed, Kept, Lost}
-use Rattle.reset_play.specs.Board.{Board}
+use Rattle.bench_model.specs.Boards.{BoardValue}
 use Rattle.reset_play.specs.Boots.{boot_at}
 use Rattle.reset_play.specs.Events.{Act, Run}
 use Rattle.reset_play.specs.Formats.{Formats}
-use Rattle.reset_play.specs.Machine.{Machine, fresh}
-use Rattle.reset_play.specs.Spent.{Element, is_open, is_attempt, floor_of}
+use Rattle.reset_play.specs.Machine.{File, Machine, fresh}
+use Rattle.reset_play.specs.Names.{is_same_name}
+use Rattle.reset_play.specs.Spent.{Element, is_open, is_attempt, floor_of, is_of}
 use Rattle.reset_play.specs.Told.{Told, Said}
 use Rattle.reset_play.specs.Told.Told.{Done, Serial, FlashFault, VolumeFault, NoBank, Full, Wraps, Invalid, Unsupported, Resources, Booted, Shown}
 
@@ -21,7 +23,7 @@ IsHeldEnd Kept = Unit {0}
 IsHeldEnd Lost = Unit {0}
 
 -- a machine that some events and then some steps of a boot lead to from a fresh board, with or without faults
-pub record IsReached (f : Formats) (board : Board) (m : Machine) : Type 0 where
+pub record IsReached (f : Formats) (board : BoardValue) (m : Machine) : Type 0 where
   pub acts : List Act
   pub told : List Said
   pub between : Machine
@@ -36,7 +38,7 @@ abbrev pub OpenIsLast : List Element → Type 0
 OpenIsLast list = (before rest : List Element) (e : Element) → list ≡ before ++ e ∷ rest → IsTrue (is_open e) → rest ≡ []
 
 -- an attempt has at least the version that is the floor in force where it stands
-abbrev pub AttemptsReachFloor : Board → List Element → Type 0
+abbrev pub AttemptsReachFloor : BoardValue → List Element → Type 0
 AttemptsReachFloor board list =
     (before rest : List Element) (e : Element) → list ≡ before ++ e ∷ rest → IsTrue (is_attempt e) → floor_of board before e.key.device ≤ e.version
 
@@ -64,3 +66,29 @@ IsNoFault (Shown picture) = Unit {0}
 abbrev pub TellNoFault : List Said → Type 0
 TellNoFault [] = Unit {0}
 TellNoFault (said ∷ rest) = IsNoFault said.answer × TellNoFault rest
+
+-- no item is the same as a later one
+abbrev pub Distinct : {X : Type 0} → (X → X → Bool) → List X → Type 0
+Distinct same [] = Unit {0}
+Distinct same (x ∷ xs) = AllByRecursion (λ y. same x y ≡ false) xs × Distinct same xs
+
+abbrev pub have_same_name : File → File → Bool
+have_same_name a b = is_same_name a.name b.name
+
+-- files have distinct names and distinct serials up to the last one, and so have staged deliveries
+pub record AreApart (m : Machine) : Type 0 where
+  pub names : Distinct have_same_name m.files
+  pub files : Distinct (λ a b. a.serial == b.serial) m.files
+  pub last_file : AllByRecursion (λ x. x.serial ≤ m.last_file) m.files
+  pub staged : Distinct (λ a b. a.serial == b.serial) m.staged
+  pub last_staged : AllByRecursion (λ p. p.serial ≤ m.last_staged) m.staged
+
+-- the units of one delivery stand in order, without gaps from 0: each is preceded by as many as its number says
+abbrev pub StandInOrder : List Element → Type 0
+StandInOrder list =
+    (before rest : List Element) (e : Element) → list ≡ before ++ e ∷ rest
+    → e.key.unit ≡ length (filter (λ x. is_of e.key.ticket.route e.key.ticket.serial x.key) before)
+
+-- no key stands twice
+abbrev pub HaveDistinctKeys : List Element → Type 0
+HaveDistinctKeys list = (before between rest : List Element) (a b : Element) → list ≡ before ++ a ∷ (between ++ b ∷ rest) → a.key ≢ b.key

@@ -1,4 +1,3 @@
-pub mod Board
 pub mod Boots
 pub mod Deliveries
 pub mod Events
@@ -9,7 +8,14 @@ pub mod Names
 pub mod Order
 pub mod Report
 pub mod Results
+pub mod Samples
+pub mod ScriptAnswers
+pub mod ScriptEvents
+pub mod ScriptInputs
+pub mod ScriptText
+pub mod ScriptWords
 pub mod Spent
+pub mod Texts
 pub mod Thin
 pub mod Told
 pub mod Verdicts

@@ -2,7 +2,7 @@
 use Rattle.std.specs.Prelude.{ℕ, Bool, false, List, [], pos}
 use Rattle.cu_base.specs.declared.time.EfiTime.{EfiTime}
 use Rattle.reset_play.specs.declared.snapshot.StagedPair.{StagedPair}
-use Rattle.reset_play.specs.Board.{Board}
+use Rattle.bench_model.specs.Boards.{BoardValue}
 use Rattle.reset_play.specs.Formats.{Segment}
 use Rattle.reset_play.specs.Spent.{Element}
 
@@ -13,7 +13,7 @@ pub record File : Type 0 where
   pub bytes : List ℕ
 
 pub record Machine : Type 0 where
-  pub board : Board
+  pub board : BoardValue
   pub now : EfiTime
   pub files : List File
   pub last_file : ℕ  -- the last serial of a file
@@ -31,7 +31,7 @@ abbrev pub first_moment : EfiTime
 first_moment = record { year = 2000; month = 1; day = 1; hour = 0; minute = 0; second = 0; nanosecond = 0; zone = pos 2047; daylight = 0; pad1 = 0; pad2 = 0 }
 
 -- a board as it leaves the factory
-abbrev pub fresh : Board → Machine
+abbrev pub fresh : BoardValue → Machine
 fresh board = record {
   board = board;
   now = first_moment;

@@ -12,7 +12,8 @@ use Rattle.reset_play.specs.declared.unit.End.TheVariants.{Refused, Sealed, Kept
 use Rattle.reset_play.specs.declared.unit.Kind.{Kind}
 use Rattle.reset_play.specs.declared.unit.Kind.TheVariants.{Try, Heal, Skip, NoTarget, Bad}
 use Rattle.reset_play.specs.declared.unit.UnitLine.{UnitLine}
-use Rattle.reset_play.specs.Board.{Board, Device}
+use Rattle.bench_model.specs.Boards.{BoardValue}
+use Rattle.bench_model.specs.Devices.{DeviceValue}
 use Rattle.reset_play.specs.Deliveries.{is_same_guid}
 use Rattle.reset_play.specs.Spent.{Standing, Element, is_closed, end_of, is_on, greatest, least, floor_of, version_of}
 use Rattle.reset_play.specs.Spent.Standing.{Open, Closed}
@@ -50,11 +51,11 @@ status_with kind None = efi_status (untried_number kind)
 status_with kind (Some end) = efi_status (efi_number_of (attempt_status end))
 
 -- the number of the result variable of the k-th closed element, counted from 0
-abbrev pub result_number : Board → ℕ → ℕ
+abbrev pub result_number : BoardValue → ℕ → ℕ
 result_number board k = k % (board.result_max + 1)
 
 -- the line of the k-th closed element
-abbrev pub line_of : Board → Kind → ℕ → Element → UnitLine
+abbrev pub line_of : BoardValue → Kind → ℕ → Element → UnitLine
 line_of board kind k e = record {
   kind = kind;
   key = e.key;
@@ -72,11 +73,11 @@ attempt_of e = (e.version, unwrap_or (option_map attempt_status (end_of e)) 0)
 abbrev pub last_attempt : List Element → ℕ → ℕ × ℕ
 last_attempt list d = unwrap_or (option_map attempt_of (last_or None (filter (λ e. is_on d e && is_closed e) list))) (0, 0)
 
-abbrev pub device_name : Board → ℕ → List ℕ
+abbrev pub device_name : BoardValue → ℕ → List ℕ
 device_name board d = unwrap_or (option_map (λ x. x.name) (slice_get board.devices d)) []
 
 -- the part of a result on an FMP payload: a refused delivery and a capsule that was passed over have none
-abbrev pub fmp_part : Board → Element → Kind → Option FmpResult
+abbrev pub fmp_part : BoardValue → Element → Kind → Option FmpResult
 fmp_part board e Bad = None
 fmp_part board e Skip = None
 fmp_part board e Heal = None
@@ -84,7 +85,7 @@ fmp_part board e NoTarget = Some (record { payload = e.key.ticket.item; index = 
 fmp_part board e Try = Some (record { payload = e.key.ticket.item; index = e.head.index; type_id = e.head.type_id; file = e.key.name; target = device_name board e.key.device })
 
 -- the result variable of an element that was closed at a moment
-abbrev pub result_at : Board → ℕ → Element → Standing → Option CapsuleResult
+abbrev pub result_at : BoardValue → ℕ → Element → Standing → Option CapsuleResult
 result_at board number e Open = None
 result_at board number e (Closed end at) = Some (record {
   number = number;
@@ -95,21 +96,21 @@ result_at board number e (Closed end at) = Some (record {
 })
 
 -- the last closed element that has a result number
-abbrev pub last_numbered : Board → List Element → ℕ → Option Element
+abbrev pub last_numbered : BoardValue → List Element → ℕ → Option Element
 last_numbered board list n =
     option_map (λ p. p.1) (last_or None (filter (λ p. result_number board p.0 == n) (enumerate_from 0 (filter is_closed list))))
 
 -- the result variables in rising number, each that of the last element with its number
-abbrev pub results_of : Board → List Element → List CapsuleResult
+abbrev pub results_of : BoardValue → List Element → List CapsuleResult
 results_of board list =
     filter_map (λ n. option_and_then (λ e. result_at board n e e.standing) (last_numbered board list n)) (range_with_len 0 (board.result_max + 1))
 
 -- the number of the last result, none before the first
-abbrev pub last_result : Board → List Element → Option ℕ
+abbrev pub last_result : BoardValue → List Element → Option ℕ
 last_result board list = option_map (λ p. result_number board p.0) (last_or None (enumerate_from 0 (filter is_closed list)))
 
 -- the devices of one type with their numbers, in board order
-abbrev pub devices_of_type : Board → Guid → List (ℕ × Device)
+abbrev pub devices_of_type : BoardValue → Guid → List (ℕ × DeviceValue)
 devices_of_type board g = filter (λ p. is_same_guid p.1.type_id g) (enumerate_from 0 board.devices)
 
 -- the first of these attempts whose status is not 0, else the first one
@@ -118,7 +119,7 @@ told_attempt first rest = unwrap_or (find (λ a. not (a.1 == 0)) (first ∷ rest
 
 -- the ESRT entry of a type: the least version and the greatest floor of its devices, type and flags of the first one,
 -- and the attempt that is told
-abbrev pub esrt_entry : Board → List Element → ℕ × Device → List (ℕ × Device) → EsrtEntry
+abbrev pub esrt_entry : BoardValue → List Element → ℕ × DeviceValue → List (ℕ × DeviceValue) → EsrtEntry
 esrt_entry board list (d, x) others = record {
   class = x.type_id;
   fw_type = x.fw_type;
@@ -133,10 +134,10 @@ esrt_entry board list (d, x) others = record {
     attempt = told_attempt (last_attempt list d) (map (λ p. last_attempt list p.0) others)
 
 -- the entry of a device's type, where the device is the first of its type
-abbrev pub esrt_entry_at : Board → List Element → ℕ × Device → List (ℕ × Device) → Option EsrtEntry
+abbrev pub esrt_entry_at : BoardValue → List Element → ℕ × DeviceValue → List (ℕ × DeviceValue) → Option EsrtEntry
 esrt_entry_at board list p [] = None
 esrt_entry_at board list p (first ∷ others) = if p.0 == first.0 then Some (esrt_entry board list first others) else None
 
 -- one entry for each type, in order of first appearance on the board
-abbrev pub esrt_of : Board → List Element → List EsrtEntry
+abbrev pub esrt_of : BoardValue → List Element → List EsrtEntry
 esrt_of board list = filter_map (λ p. esrt_entry_at board list p (devices_of_type board p.1.type_id)) (enumerate_from 0 board.devices)

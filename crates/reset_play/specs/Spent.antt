@@ -1,5 +1,5 @@
 -- The list of spent units, which only grows, and what is read off it. A place of the list is the front of it up to there.
-use Rattle.std.specs.Prelude.{ℕ, Bool, true, false, ◌==◌, ◌&&◌, ◌||◌, not, max, min, List, [], ◌∷◌, map, filter, count_by, slice_get, Option, None, Some, option_map, unwrap_or, if◌then◌else◌}
+use Rattle.std.specs.Prelude.{ℕ, Bool, true, false, ◌==◌, ◌&&◌, ◌||◌, not, max, min, List, [], ◌∷◌, length, map, filter, slice_get, Option, None, Some, option_map, unwrap_or, if◌then◌else◌}
 use Rattle.std.specs.List.{enumerate_from, last_or}
 use Rattle.cu_base.specs.declared.guid.Guid.{Guid}
 use Rattle.cu_base.specs.declared.time.EfiTime.{EfiTime}
@@ -8,7 +8,8 @@ use Rattle.reset_play.specs.declared.unit.Kind.{Kind}
 use Rattle.reset_play.specs.declared.unit.UnitKey.{UnitKey}
 use Rattle.reset_play.specs.declared.unit.End.{End}
 use Rattle.reset_play.specs.declared.unit.End.TheVariants.{Refused, Sealed, Kept, Lost}
-use Rattle.reset_play.specs.Board.{Board, Device}
+use Rattle.bench_model.specs.Boards.{BoardValue}
+use Rattle.bench_model.specs.Devices.{DeviceValue}
 use Rattle.reset_play.specs.Formats.{ItemHead}
 
 -- an element is open, or closed with its end at a moment. A unit that tries nothing has no end.
@@ -94,11 +95,11 @@ least n (m ∷ ms) = min m (least n ms)
 abbrev pub sealed_floors : List Element → ℕ → List ℕ
 sealed_floors list d = map (λ e. e.floor) (filter (λ e. is_on d e && is_sealed e) list)
 
-abbrev pub factory_floor : Board → ℕ → ℕ
+abbrev pub factory_floor : BoardValue → ℕ → ℕ
 factory_floor board d = unwrap_or (option_map (λ x. x.floor) (slice_get board.devices d)) 0
 
 -- the floor in force of a device: the greatest of its factory floor and the floors of all images sealed on it
-abbrev pub floor_of : Board → List Element → ℕ → ℕ
+abbrev pub floor_of : BoardValue → List Element → ℕ → ℕ
 floor_of board list d = greatest (factory_floor board d) (sealed_floors list d)
 
 -- what a device holds: who wrote it, its version, floor and payload
@@ -109,7 +110,7 @@ pub record Image : Type 0 where
   pub payload : List ℕ
 
 -- the image that a device leaves the factory with, under the ticket of route 255
-abbrev pub factory_image : Device → Image
+abbrev pub factory_image : DeviceValue → Image
 factory_image d = record {
   ticket = record { route = 255; capsule = 0; item = 0; serial = 0 };
   version = d.version;
@@ -125,19 +126,23 @@ image_left e =
     else None
 
 -- the image of a device: what the last Sealed or Lost element on it left, else that of the factory
-abbrev pub image_of : Board → List Element → ℕ → Option Image
+abbrev pub image_of : BoardValue → List Element → ℕ → Option Image
 image_of board list d =
     unwrap_or (option_map image_left (last_or None (filter (λ e. is_on d e && (is_sealed e || is_lost e)) list)))
     (option_map factory_image (slice_get board.devices d))
 
 -- the version of a device's image, 0 where it has none
-abbrev pub version_of : Board → List Element → ℕ → ℕ
+abbrev pub version_of : BoardValue → List Element → ℕ → ℕ
 version_of board list d = unwrap_or (option_map (λ i. i.version) (image_of board list d)) 0
 
 -- the versions of all devices by their types, in board order
-abbrev pub versions_of : Board → List Element → List (Guid × ℕ)
+abbrev pub versions_of : BoardValue → List Element → List (Guid × ℕ)
 versions_of board list = map (λ p. (p.1.type_id, version_of board list p.0)) (enumerate_from 0 board.devices)
+
+-- whether a unit is of the delivery of a route and a serial
+abbrev pub is_of : ℕ → ℕ → UnitKey → Bool
+is_of route serial key = key.ticket.route == route && key.ticket.serial == serial
 
 -- how many units of a file are spent: the closed elements of its serial
 abbrev pub spent : List Element → ℕ → ℕ
-spent list serial = count_by (λ e. is_closed e && e.key.ticket.route == 1 && e.key.ticket.serial == serial) list
+spent list serial = length (filter (λ e. is_of 1 serial e.key && is_closed e) list)

@@ -3,17 +3,17 @@
 use Rattle.std.specs.Prelude.{ℕ, Bool, nat_le, List, [], ◌∷◌, length, slice_get, bytes_eq, Option, None, Some, option_map, unwrap_or, if◌then◌else◌}
 use Rattle.std.specs.List.{list_any}
 use Rattle.sha2.specs.Sha256.{sha256}
-use Rattle.reset_play.specs.Board.{Board}
+use Rattle.bench_model.specs.Boards.{BoardValue}
 use Rattle.reset_play.specs.Formats.{Parts, Formats}
 use Rattle.reset_play.specs.Deliveries.{BootUnit}
 use Rattle.reset_play.specs.Spent.{floor_of, versions_of}
 use Rattle.reset_play.specs.Machine.{Machine}
 
 -- the SHA-256 of the whole update image is listed
-abbrev pub is_admitted : Board → List ℕ → Bool
+abbrev pub is_admitted : BoardValue → List ℕ → Bool
 is_admitted board image = list_any (λ d. bytes_eq d.bytes (sha256 image)) board.digests
 
-abbrev pub capacity_of : Board → ℕ → ℕ
+abbrev pub capacity_of : BoardValue → ℕ → ℕ
 capacity_of board d = unwrap_or (option_map (λ x. x.capacity) (slice_get board.devices d)) 0
 
 -- a check and the status where it fails

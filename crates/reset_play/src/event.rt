@@ -1,4 +1,4 @@
-use crate::Choice;
+use bench_model::Choice;
 use cu_base::{Blob, EfiTime, Text};
 
 /// An event of a script. A delivery's bytes are those of a named input.

@@ -4,22 +4,30 @@
 //! checks of an attempt, the steps of a boot, and which machine each event leaves. Contracts speak of a play by these words.
 #![tactic(auto)]
 
-mod choice;
 mod event;
 mod laws;
 mod limits;
 mod report;
+mod script;
 mod snapshot;
+mod text;
 mod trace;
 mod unit;
 
-pub use choice::Choice;
 use cu_base::Items;
 pub use event::Event;
-pub use laws::{attempts_reach_the_floor, floor_never_falls, the_last_alone_is_open};
+pub use laws::{
+    attempts_reach_the_floor, deliveries_are_apart, floor_never_falls, sample_plays,
+    the_last_alone_is_open, units_stand_in_order, without_faults_there_is_one_machine,
+};
 pub use limits::{MAX_FILES, MAX_MEMORY_BYTES, MAX_SEGMENTS, MAX_STAGED};
 pub use report::Report;
+pub use script::{
+    MAX_COUNT, MAX_EVENTS, MAX_FILE_NAME, MAX_INPUT_NAME, MAX_POKE_BYTES, ScriptFault, ScriptKind,
+    read_script, script_inputs,
+};
 pub use snapshot::{CapsuleResult, EsrtEntry, FmpResult, FolderFile, Snapshot, StagedPair};
+pub use text::trace_text;
 pub use trace::{Answer, BootEnd, Entry};
 pub use unit::{End, Kind, UnitKey, UnitLine};
 

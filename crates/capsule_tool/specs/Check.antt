@@ -1,0 +1,27 @@
+-- What `check` finds of the bytes of a file: the first refusal of the capsule grammar, else bytes that follow the
+-- capsule, else one whole capsule.
+use Rattle.std.specs.Prelude.{ℕ, nat_lt, List, length, codes, Option, None, Some, if◌then◌else◌}
+use Rattle.fmp_headers.specs.CapsuleHeader.{image_size}
+use Rattle.capsule_grammar.specs.Refusals.{refusal}
+use Rattle.capsule_grammar.specs.declared.refusal.Why.{Why}
+use Rattle.capsule_grammar.specs.declared.refusal.Why.TheVariants.{Short, BadHeaderSize, BadImageSize, BadFmpVersion, BadImageVersion, OffsetsOutside, OffsetsNotRising, ImageOutside, TooManyCapsules}
+use Rattle.capsule_tool.specs.declared.check.Verdict.{Verdict}
+use Rattle.capsule_tool.specs.declared.check.Verdict.TheVariants.{Whole, Refused, Trailing}
+
+abbrev pub name_of : Why → List ℕ
+name_of Short = codes "Short"
+name_of BadHeaderSize = codes "BadHeaderSize"
+name_of BadImageSize = codes "BadImageSize"
+name_of BadFmpVersion = codes "BadFmpVersion"
+name_of BadImageVersion = codes "BadImageVersion"
+name_of OffsetsOutside = codes "OffsetsOutside"
+name_of OffsetsNotRising = codes "OffsetsNotRising"
+name_of ImageOutside = codes "ImageOutside"
+name_of TooManyCapsules = codes "TooManyCapsules"
+
+abbrev pub verdict_by : Option (ℕ × Why) → List ℕ → Verdict
+verdict_by (Some refused) bytes = Refused (record { at = refused.0; why = refused.1 })
+verdict_by None bytes = if nat_lt (image_size bytes) (length bytes) then Trailing (image_size bytes) else Whole (image_size bytes)
+
+abbrev pub verdict_of : List ℕ → Verdict
+verdict_of bytes = verdict_by (refusal bytes) bytes

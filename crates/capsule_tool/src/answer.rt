@@ -1,0 +1,87 @@
+ghost use Rattle.std.specs.Prelude.{◌≡◌, IfOk};
+ghost use Rattle.capsule_tool.specs.Answers.{usage, done, refused, later, unread, long};
+
+use crate::status::Status;
+use cu_base::{Blob, NoMemory};
+use std::alloc::Global;
+
+/// What a run has found, before any of it is written.
+#[derive(Drop)]
+pub struct Answer {
+    pub status: Status,
+    pub text: Blob,
+}
+
+const USAGE: &str =
+    "usage: check FILE | show FILE | rebuild FILE | make RECIPE | play BOARD SCRIPT | load N\n";
+
+impl Answer {
+    /// The words have none of the forms.
+    pub fn usage(alloc: Global) -> Result<Answer, NoMemory>
+        ensures { IfOk result (λ answer. answer ≡ usage) }
+    {
+        Ok(Answer {
+            status: Status::Usage,
+            text: Blob::from_slice(alloc, USAGE.as_bytes())?,
+        })
+    }
+
+    /// The whole input is one capsule of this many bytes.
+    pub fn done(alloc: Global, length: usize) -> Result<Answer, NoMemory>
+        ensures { IfOk result (λ answer. answer ≡ done length) }
+    {
+        match format!(in alloc; "ok {length}\n") {
+            Ok(text) => Answer::new(alloc, Status::Done, text.as_str()),
+            Err(_) => Err(NoMemory),
+        }
+    }
+
+    /// The bytes are refused at a place, for a cause of this name.
+    pub fn refused(alloc: Global, at: usize, why: &str) -> Result<Answer, NoMemory>
+        ensures { IfOk result (λ answer. answer ≡ refused at why.now) }
+    {
+        match format!(in alloc; "refused {at} {why}\n") {
+            Ok(text) => Answer::new(alloc, Status::Refused, text.as_str()),
+            Err(_) => Err(NoMemory),
+        }
+    }
+
+    /// What is asked for is not built yet.
+    pub fn later(alloc: Global, what: &str) -> Result<Answer, NoMemory>
+        ensures { IfOk result (λ answer. answer ≡ later what.now) }
+    {
+        match format!(in alloc; "later {what}\n") {
+            Ok(text) => Answer::new(alloc, Status::Later, text.as_str()),
+            Err(_) => Err(NoMemory),
+        }
+    }
+
+    /// The input of this name could not be read.
+    pub fn unread(alloc: Global, name: &str) -> Result<Answer, NoMemory>
+        ensures { IfOk result (λ answer. answer ≡ unread name.now) }
+    {
+        match format!(in alloc; "unread {name}\n") {
+            Ok(text) => Answer::new(alloc, Status::Unread, text.as_str()),
+            Err(_) => Err(NoMemory),
+        }
+    }
+
+    /// The input of this name is longer than its limit.
+    pub fn long(alloc: Global, name: &str) -> Result<Answer, NoMemory>
+        ensures { IfOk result (λ answer. answer ≡ long name.now) }
+    {
+        match format!(in alloc; "long {name}\n") {
+            Ok(text) => Answer::new(alloc, Status::Long, text.as_str()),
+            Err(_) => Err(NoMemory),
+        }
+    }
+
+    fn new(alloc: Global, status: Status, text: &str) -> Result<Answer, NoMemory>
+        ensures { IfOk result (λ answer. answer ≡ record { status = status; text = text.now }) }
+    {
+        Ok(Answer {
+            status,
+            text: Blob::from_slice(alloc, text.as_bytes())?,
+        })
+    }
+}

@@ -1,0 +1,48 @@
+ghost use Rattle.std.specs.Prelude.{◌≡◌};
+ghost use Rattle.capsule_tool.specs.Check.{verdict_of, name_of};
+
+use capsule_grammar::{Refusal, Why};
+
+/// What checking the bytes of a file finds.
+#[derive(Clone, Copy, Debug, PartialEq, Eq)]
+pub enum Verdict {
+    /// They are one capsule of this many bytes.
+    Whole(usize),
+    /// They are refused as a capsule.
+    Refused(Refusal),
+    /// Bytes follow the capsule, from this place on.
+    Trailing(usize),
+}
+
+/// Whether the bytes are one capsule and no more.
+pub fn judge(bytes: &[u8]) -> Verdict
+    ensures { result ≡ verdict_of bytes.now }
+{
+    match capsule_grammar::check(bytes) {
+        Ok(length) => {
+            if length < bytes.len() {
+                Verdict::Trailing(length)
+            } else {
+                Verdict::Whole(length)
+            }
+        }
+        Err(refusal) => Verdict::Refused(refusal),
+    }
+}
+
+/// The name of a cause as it is printed.
+pub fn printed(why: Why) -> &'static str
+    ensures { result.now ≡ name_of why }
+{
+    match why {
+        Why::Short => "Short",
+        Why::BadHeaderSize => "BadHeaderSize",
+        Why::BadImageSize => "BadImageSize",
+        Why::BadFmpVersion => "BadFmpVersion",
+        Why::BadImageVersion => "BadImageVersion",
+        Why::OffsetsOutside => "OffsetsOutside",
+        Why::OffsetsNotRising => "OffsetsNotRising",
+        Why::ImageOutside => "ImageOutside",
+        Why::TooManyCapsules => "TooManyCapsules",
+    }
+}

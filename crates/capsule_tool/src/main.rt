@@ -1,0 +1,53 @@
+//! `capsule_tool` checks UEFI capsule files. Its words are `check FILE`; the other forms are still to be
+//! built, and answer so.
+//!
+//! `run` is the whole program over inputs and a sink: what it writes and its status are a function of the
+//! words and of the bytes of the inputs, wherever nothing outside fails.
+#![tactic(auto)]
+
+mod answer;
+mod check;
+mod form;
+mod input;
+mod program;
+mod status;
+#[cfg(test)]
+mod tests;
+
+use cu_base::{Names, NoMemory, Text};
+use cu_io::{FileInputs, StdSink};
+pub use program::{Outcome, run};
+use status::Status;
+use std::alloc::Global;
+use std::env;
+use std::io::ErrorKind;
+use std::process::ExitCode;
+use std::rt::Env;
+
+fn main(rt: HostRuntime) -> ExitCode {
+    match words_of(&rt) {
+        Ok(words) => {
+            let mut inputs = FileInputs::new(rt.alloc(), &rt);
+            let mut out = StdSink::new(&rt);
+            let outcome = run(rt.alloc(), words.as_slice(), &mut inputs, &mut out);
+            ExitCode::from(outcome.status)
+        }
+        Err(NoMemory) => ExitCode::from(Status::Memory.code()),
+    }
+}
+
+/// The arguments behind the program's name, or no words where one of them is not UTF-8.
+fn words_of<R: Env + AllocGlobal>(rt: &R) -> Result<Names, NoMemory> {
+    let alloc = rt.alloc();
+    let mut words = Names::new(alloc);
+    match env::args(rt) {
+        Ok(args) => {
+            for arg in args.skip(1) {
+                words.push(Text::from_str(alloc, arg.as_str())?)?;
+            }
+        }
+        Err(error) if error.kind() == ErrorKind::OutOfMemory => return Err(NoMemory),
+        Err(_) => {}
+    }
+    Ok(words)
+}

@@ -1,0 +1,6 @@
+use Rattle.std.proofs.Common.{arith, length-take}
+use Rattle.cu_io.proofs.Taking.{takes_some_after}
+use Rattle.cu_io.proofs.read.read_whole.Goals as goal
+
+pub returns-in-Err-clause-err : goal.returns-in-Err-clause-err
+returns-in-Err-clause-err g c = takes_some_after _ _ _ _ _ _ c.loop-all.invariant.taken (omega (arith, length-take c.min-room.result c.deref_mut.result.now)) c.in-Err.ensures.err

@@ -1,0 +1,147 @@
+//! Inputs that are files, and a sink that is the standard output. They tell no content: what the
+//! operating system gives and takes is trusted.
+ghost use Rattle.std.specs.Prelude.{◌≡◌, []};
+
+use crate::{Inputs, OpenFault, Sink, SinkFault, Source};
+use cu_base::{Failed, Names, Text};
+use std::alloc::Global;
+use std::fs::{File, OpenFile};
+use std::io;
+use std::io::{Read, Write};
+use std::rt::Files;
+
+/// A file that is read. It tells no content.
+#[derive(Drop)]
+pub struct FileSource<F: Read + OpenFile + Drop> {
+    file: F,
+    taken: u64,
+    faults: u64,
+}
+
+impl<F: Read + OpenFile + Drop> Source for FileSource<F> {
+    ghost use Rattle.std.specs.Prelude.{None};
+
+    ghost left = { λ _. None };
+
+    ghost taken = { λ s. s.taken };
+
+    ghost faults = { λ s. s.faults };
+
+    fn read(&mut self, out: &mut [u8]) -> Result<usize, Failed> {
+        match self.file.read(out) {
+            Ok(n) => {
+                self.taken = self.taken.saturating_add(n as u64);
+                Ok(n)
+            }
+            Err(_) => {
+                self.faults = self.faults.saturating_add(1);
+                Err(Failed)
+            }
+        }
+    }
+
+    fn expected_len(&self) -> u64 {
+        match self.file.metadata() {
+            Ok(metadata) => metadata.len(),
+            Err(_) => 0,
+        }
+    }
+}
+
+/// The files of the runtime, by path. They tell no content, and a file that is not there is a counted fault.
+#[derive(Drop)]
+pub struct FileInputs<'a, R: Files> {
+    rt: &'a R,
+    asked: Names,
+    taken: u64,
+    faults: u64,
+}
+
+impl<'a, R: Files> FileInputs<'a, R> {
+    /// The files, of which none was asked for.
+    pub fn new(alloc: Global, rt: &'a R) -> FileInputs<'a, R>
+        ensures asked { result.asked.items ≡ [] }
+        ensures taken { result.taken ≡ 0 }
+        ensures faults { result.faults ≡ 0 }
+    {
+        FileInputs {
+            rt,
+            asked: Names::new(alloc),
+            taken: 0,
+            faults: 0,
+        }
+    }
+}
+
+impl<'a, R: Files> Inputs for FileInputs<'a, R> {
+    ghost use Rattle.std.specs.Prelude.{None};
+
+    type Src = FileSource<R::File>;
+
+    ghost named = { λ _. None };
+
+    ghost asked = { λ s. s.asked.items };
+
+    ghost taken = { λ s. s.taken };
+
+    ghost faults = { λ s. s.faults };
+
+    fn open(&mut self, alloc: Global, name: &Text) -> Result<FileSource<R::File>, OpenFault> {
+        let Ok(kept) = Text::from_str(alloc, name.as_str()) else {
+            return Err(OpenFault::Memory);
+        };
+        if self.asked.push(kept).is_err() {
+            return Err(OpenFault::Memory);
+        }
+        match File::open(self.rt, name.as_str()) {
+            Ok(file) => Ok(FileSource {
+                file,
+                taken: 0,
+                faults: 0,
+            }),
+            Err(_) => {
+                self.faults = self.faults.saturating_add(1);
+                Err(OpenFault::Failed)
+            }
+        }
+    }
+
+    fn fold(&mut self, src: FileSource<R::File>) {
+        self.taken = self.taken.saturating_add(src.taken);
+        self.faults = self.faults.saturating_add(src.faults);
+    }
+}
+
+/// The standard output. It does not tell what was written.
+#[derive(Drop)]
+pub struct StdSink<'a, P: Print> {
+    rt: &'a P,
+    faults: u64,
+}
+
+impl<'a, P: Print> StdSink<'a, P> {
+    /// The standard output of the runtime.
+    pub fn new(rt: &'a P) -> StdSink<'a, P>
+        ensures { result.faults ≡ 0 }
+    {
+        StdSink { rt, faults: 0 }
+    }
+}
+
+impl<'a, P: Print> Sink for StdSink<'a, P> {
+    ghost use Rattle.std.specs.Prelude.{None};
+
+    ghost written = { λ _. None };
+
+    ghost faults = { λ s. s.faults };
+
+    fn write(&mut self, bytes: &[u8]) -> Result<usize, SinkFault> {
+        match io::writer(self.rt).write(bytes) {
+            Ok(n) if n > 0 || bytes.is_empty() => Ok(n),
+            _ => {
+                self.faults = self.faults.saturating_add(1);
+                Err(SinkFault::Failed)
+            }
+        }
+    }
+}

@@ -1,0 +1,23 @@
+-- Texts and their documents.
+use Rattle.std.proofs.Common.{◌≡◌, ℕ, Bool, true, false, List, Option, None, Some, Result, Ok, Err, refl, sym, ◌∙◌}
+use Rattle.std.specs.Str.{IsUtf8, is_utf8}
+use Rattle.std.proofs.lemmas.Str.{IsUtf8-from_is_utf8, is_utf8-from_IsUtf8}
+use Rattle.toml.specs.Data.{Members}
+use Rattle.toml.specs.Parse.{parse_document}
+use Rattle.recipe_files.specs.declared.faults.Fault.{Fault}
+use Rattle.recipe_files.specs.Keys.{key_name}
+use Rattle.recipe_files.specs.Boards.{board_of, board_test, document, document_test}
+
+pub document_of_text : (bytes : List ℕ) → IsUtf8 bytes → document bytes ≡ parse_document bytes
+document_of_text bytes text = rw (is_utf8-from_IsUtf8 bytes text)
+
+refused_by : (bytes : List ℕ) (b : Bool) → (b ≡ true → IsUtf8 bytes) → ¬ (IsUtf8 bytes) → b ≡ false
+refused_by bytes true holds not = absurd (not (holds refl))
+refused_by bytes false holds not = refl
+
+pub document_of_other : (bytes : List ℕ) → ¬ (IsUtf8 bytes) → document bytes ≡ None
+document_of_other bytes not = rw (refused_by bytes (is_utf8 bytes) (IsUtf8-from_is_utf8 bytes) not)
+
+pub told : (d : Option Members) (fault : Fault) → document_test d ≡ Some fault → board_of d ≡ Err (fault.kind, key_name fault.key)
+told None fault same = cc
+told (Some table) fault same = rw same

@@ -1,0 +1,46 @@
+-- The keys of a board's text, and what each takes.
+use Rattle.std.specs.Prelude.{ℕ, List, codes}
+use Rattle.bench_model.specs.declared.limits.TheConstants.{MAX_BANK, MAX_CAPACITY, MAX_DEVICES, MAX_DIGESTS, MAX_FW_TYPE, MAX_INSTANCE, MIN_BANK, MIN_CAPACITY}
+use Rattle.recipe_files.specs.declared.keys.Key.{Key}
+use Rattle.recipe_files.specs.declared.keys.Key.TheVariants.{Whole, Bank, ResultMax, Digests, Device, Name, TypeId, Index, Instance, FwType, Capacity, Version, Floor, Flags}
+
+-- the plain name of a key, and '-' for the whole text
+abbrev pub key_name : Key → List ℕ
+key_name Whole = codes "-"
+key_name Bank = codes "bank"
+key_name ResultMax = codes "result_max"
+key_name Digests = codes "digests"
+key_name Device = codes "device"
+key_name Name = codes "name"
+key_name TypeId = codes "type"
+key_name Index = codes "index"
+key_name Instance = codes "instance"
+key_name FwType = codes "fw_type"
+key_name Capacity = codes "capacity"
+key_name Version = codes "version"
+key_name Floor = codes "floor"
+key_name Flags = codes "flags"
+
+-- what a key takes
+pub data Values : Type 0 where
+  nothing : Values
+  numbers : ℕ → ℕ → Values  -- an integer from the first to the second
+  names : Values  -- a text that is the name of a device
+  guids : Values  -- a text that is a GUID
+  lists : ℕ → Values  -- a list of at most so many entries
+
+abbrev pub values_of : Key → Values
+values_of Whole = nothing
+values_of Bank = numbers MIN_BANK MAX_BANK
+values_of ResultMax = numbers 0 65535
+values_of Digests = lists MAX_DIGESTS
+values_of Device = lists MAX_DEVICES
+values_of Name = names
+values_of TypeId = guids
+values_of Index = numbers 0 255
+values_of Instance = numbers 0 MAX_INSTANCE
+values_of FwType = numbers 0 MAX_FW_TYPE
+values_of Capacity = numbers MIN_CAPACITY MAX_CAPACITY
+values_of Version = numbers 0 4294967295
+values_of Floor = numbers 0 4294967295
+values_of Flags = numbers 0 4294967295

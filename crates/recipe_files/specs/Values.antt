@@ -1,0 +1,45 @@
+-- The values that a table holds at its keys.
+use Rattle.std.specs.Prelude.{ℕ, ℤ, pos, negsuc, List, [], ◌∷◌, replicate, unwrap_or}
+use Rattle.std.specs.Option.{option_map_or}
+use Rattle.std.specs.Result.{result_unwrap_or}
+use Rattle.toml.specs.Data.{Data, Items, no_items, item, Members, as_array, as_integer, as_str, get_member}
+use Rattle.cu_base.specs.declared.guid.Guid.{Guid}
+use Rattle.cu_base.specs.Guids.{guid_of_text}
+use Rattle.recipe_files.specs.declared.keys.Key.{Key}
+use Rattle.recipe_files.specs.Keys.{key_name}
+
+abbrev pub entries : Items → List Data
+entries no_items = []
+entries (item d ds) = d ∷ entries ds
+
+abbrev pub natural : ℤ → ℕ
+natural (pos n) = n
+natural (negsuc n) = 0
+
+-- what a value is as each kind, or nothing of it where it is of another kind
+abbrev pub number_of : Data → ℕ
+number_of d = natural (unwrap_or (as_integer d) (pos 0))
+
+abbrev pub text_of : Data → List ℕ
+text_of d = unwrap_or (as_str d) []
+
+abbrev pub no_guid : Guid
+no_guid = record { bytes = replicate 16 0 }
+
+abbrev pub guid_of : Data → Guid
+guid_of d = result_unwrap_or (guid_of_text (text_of d)) no_guid
+
+abbrev pub entries_of : Data → List Data
+entries_of d = entries (unwrap_or (as_array d) no_items)
+
+unfoldable pub number_in : Key → Members → ℕ
+number_in key table = option_map_or number_of (get_member (key_name key) table) 0
+
+unfoldable pub text_in : Key → Members → List ℕ
+text_in key table = option_map_or text_of (get_member (key_name key) table) []
+
+unfoldable pub guid_in : Key → Members → Guid
+guid_in key table = option_map_or guid_of (get_member (key_name key) table) no_guid
+
+unfoldable pub entries_in : Key → Members → List Data
+entries_in key table = option_map_or entries_of (get_member (key_name key) table) []

@@ -1,0 +1,87 @@
+ghost use Rattle.std.specs.Prelude.{◌≡◌, Ok, IfOk, IfErr};
+ghost use Rattle.toml.specs.View.{table_view};
+ghost use Rattle.recipe_files.specs.Boards.{FindsTable, TellsFault, board_in, board_of, board_test, board_text, document, document_test};
+ghost use Rattle.recipe_files.specs.Faults.{Reads};
+
+use crate::devices::read_devices;
+use crate::digests::read_digests;
+use crate::faults::{BadKind, Fault, FileFault, Stop};
+use crate::keys::{Key, key_name};
+use crate::values::{list_at, number_at};
+use bench_model::{BANK_BASE, Board, MAX_BANK, MAX_DEVICES, MAX_DIGESTS, MIN_BANK, RESULT_ROOM};
+use cu_base::Text;
+use std::alloc::Global;
+use toml::Table;
+
+#[tactic(auto, unfolding(crate::specs::Boards::board_test, crate::specs::Boards::board_in))]
+fn read_table(alloc: Global, table: &Table) -> Result<Board, Stop>
+    ensures { Reads (board_test (table_view table.now)) (λ board. board ≡ board_in (table_view table.now)) result }
+{
+    let bank = number_at(table, Key::Bank, u64::from(MIN_BANK), u64::from(MAX_BANK))? as u32;
+    let result_max = number_at(table, Key::ResultMax, 0, u64::from(u16::MAX))? as u16;
+    let digests = read_digests(alloc, list_at(table, Key::Digests, MAX_DIGESTS)?)?;
+    let list = list_at(table, Key::Device, MAX_DEVICES)?;
+    if list.is_empty() {
+        return Err(Stop::Bad(Fault {
+            kind: BadKind::MissingKey,
+            key: Key::Device,
+        }));
+    }
+    let devices = read_devices(alloc, list)?;
+    if bank < BANK_BASE + RESULT_ROOM * (u32::from(result_max) + 1) {
+        return Err(Stop::Bad(Fault {
+            kind: BadKind::BankTooSmall,
+            key: Key::Bank,
+        }));
+    }
+    Ok(Board::new(bank, result_max, digests, devices))
+}
+
+/// The document of a text.
+#[tactic(auto, using(crate::proofs::Documents::document_of_text, crate::proofs::Documents::document_of_other))]
+fn read_document(alloc: Global, bytes: &[u8]) -> Result<Table, Stop>
+    ensures { FindsTable (document bytes.now) result }
+{
+    let refused = Fault {
+        kind: BadKind::BadToml,
+        key: Key::Whole,
+    };
+    let Ok(text) = std::str::from_utf8(bytes) else {
+        return Err(Stop::Bad(refused));
+    };
+    match toml::table_from_str(alloc, text) {
+        Ok(table) => Ok(table),
+        Err(fault) if fault.is_memory() => Err(Stop::Memory),
+        Err(_) => Err(Stop::Bad(refused)),
+    }
+}
+
+fn read_text(alloc: Global, bytes: &[u8]) -> Result<Board, Stop>
+    ensures { Reads (document_test (document bytes.now)) (λ board. board_of (document bytes.now) ≡ Ok board) result }
+{
+    let table = read_document(alloc, bytes)?;
+    read_table(alloc, &table)
+}
+
+/// The board of a text. A text that is refused is told as `Bad`, with the first fault in the order of
+/// the keys and of the tables, and the plain name of its key: `BadToml` where the bytes are no document
+/// that `toml` accepts; `MissingKey`, `WrongKind`, `OutOfRange` and `BadGuid` at a key; `Repeated` at the
+/// name or the instance of a later table; `BankTooSmall` after all others. Unknown keys are ignored.
+/// `Memory` is told where memory ran out.
+#[tactic(auto, using(crate::proofs::Documents::told))]
+pub fn read_board(alloc: Global, bytes: &[u8]) -> Result<Board, FileFault>
+    ensures ok { IfOk result (λ board. board_text bytes.now ≡ Ok board) }
+    ensures refused { IfErr result (TellsFault (board_text bytes.now)) }
+{
+    match read_text(alloc, bytes) {
+        Ok(board) => Ok(board),
+        Err(Stop::Memory) => Err(FileFault::Memory),
+        Err(Stop::Bad(fault)) => match Text::from_str(alloc, key_name(fault.key)) {
+            Ok(key) => Err(FileFault::Bad {
+                kind: fault.kind,
+                key,
+            }),
+            Err(_) => Err(FileFault::Memory),
+        },
+    }
+}

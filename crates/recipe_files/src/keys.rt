@@ -1,0 +1,43 @@
+ghost use Rattle.std.specs.Prelude.{◌≡◌};
+ghost use Rattle.recipe_files.specs.Keys.{key_name};
+
+/// A key of a board's text, or the whole text.
+#[derive(Clone, Copy, Debug, PartialEq, Eq)]
+pub(crate) enum Key {
+    Whole,
+    Bank,
+    ResultMax,
+    Digests,
+    Device,
+    Name,
+    TypeId,
+    Index,
+    Instance,
+    FwType,
+    Capacity,
+    Version,
+    Floor,
+    Flags,
+}
+
+/// The plain name of the key, and `-` for the whole text.
+pub(crate) fn key_name(key: Key) -> &'static str
+    ensures { result.now ≡ key_name key }
+{
+    match key {
+        Key::Whole => "-",
+        Key::Bank => "bank",
+        Key::ResultMax => "result_max",
+        Key::Digests => "digests",
+        Key::Device => "device",
+        Key::Name => "name",
+        Key::TypeId => "type",
+        Key::Index => "index",
+        Key::Instance => "instance",
+        Key::FwType => "fw_type",
+        Key::Capacity => "capacity",
+        Key::Version => "version",
+        Key::Floor => "floor",
+        Key::Flags => "flags",
+    }
+}

@@ -1,0 +1,126 @@
+ghost use Rattle.std.specs.Prelude.{◌≡◌, ◌≤◌, Some, None, MatchResult, IsTrue, map, length};
+ghost use Rattle.toml.specs.Data.{get_member};
+ghost use Rattle.toml.specs.View.{view, table_view};
+ghost use Rattle.bench_model.specs.Names.{is_device_name};
+ghost use Rattle.recipe_files.specs.Keys.{key_name, values_of, numbers, names, guids, lists};
+ghost use Rattle.recipe_files.specs.Tests.{key_test, value_fault};
+ghost use Rattle.recipe_files.specs.Values.{entries_in, entries_of, guid_in, guid_of, number_in, number_of, text_in, text_of};
+
+use crate::faults::{BadKind, Fault};
+use crate::keys::{Key, key_name};
+use bench_model::is_device_name;
+use cu_base::Guid;
+use toml::value::Array;
+use toml::{Table, Value};
+
+/// The number at a key that takes the integers from `low` to `high`.
+#[tactic(auto, unfolding(crate::specs::Tests::key_test, crate::specs::Values::number_in))]
+pub(crate) fn number_at(table: &Table, key: Key, low: u64, high: u64) -> Result<u64, Fault>
+    requires { values_of key ≡ numbers low high }
+    ensures { MatchResult result
+        (λ n. (key_test key (table_view table.now) ≡ None) × (number_in key (table_view table.now) ≡ n) × (low ≤ n) × (n ≤ high))
+        (λ fault. key_test key (table_view table.now) ≡ Some fault) }
+{
+    match number_of(value_at(table, key)?, low, high) {
+        Ok(n) => Ok(n),
+        Err(kind) => Err(Fault { kind, key }),
+    }
+}
+
+/// The name at a key that takes the name of a device.
+#[tactic(auto, unfolding(crate::specs::Tests::key_test, crate::specs::Values::text_in))]
+pub(crate) fn name_at<'a>(table: &'a Table, key: Key) -> Result<&'a str, Fault>
+    requires { values_of key ≡ names }
+    ensures { MatchResult result
+        (λ text. (key_test key (table_view table.now) ≡ None) × (text_in key (table_view table.now) ≡ text.now) × IsTrue (is_device_name text.now))
+        (λ fault. key_test key (table_view table.now) ≡ Some fault) }
+{
+    let value = value_at(table, key)?;
+    match value.as_str() {
+        Some(text) if is_device_name(text) => Ok(text),
+        Some(_) => Err(Fault {
+            kind: BadKind::OutOfRange,
+            key,
+        }),
+        None => Err(Fault {
+            kind: BadKind::WrongKind,
+            key,
+        }),
+    }
+}
+
+/// The GUID at a key that takes one.
+#[tactic(auto, unfolding(crate::specs::Tests::key_test, crate::specs::Values::guid_in))]
+pub(crate) fn guid_at(table: &Table, key: Key) -> Result<Guid, Fault>
+    requires { values_of key ≡ guids }
+    ensures { MatchResult result
+        (λ guid. (key_test key (table_view table.now) ≡ None) × (guid_in key (table_view table.now) ≡ guid))
+        (λ fault. key_test key (table_view table.now) ≡ Some fault) }
+{
+    let value = value_at(table, key)?;
+    match value.as_str() {
+        Some(text) => match Guid::from_text(text) {
+            Ok(guid) => Ok(guid),
+            Err(_) => Err(Fault {
+                kind: BadKind::BadGuid,
+                key,
+            }),
+        },
+        None => Err(Fault {
+            kind: BadKind::WrongKind,
+            key,
+        }),
+    }
+}
+
+/// The list at a key that takes one of at most so many entries.
+#[tactic(auto, unfolding(crate::specs::Tests::key_test, crate::specs::Values::entries_in), using(crate::proofs::Entries::entries_view, crate::proofs::Entries::count_view))]
+pub(crate) fn list_at<'a>(table: &'a Table, key: Key, most: usize) -> Result<&'a Array, Fault>
+    requires { values_of key ≡ lists most }
+    ensures { MatchResult result
+        (λ list. (key_test key (table_view table.now) ≡ None) × (entries_in key (table_view table.now) ≡ map view list.now.items) × (length list.now.items ≤ most))
+        (λ fault. key_test key (table_view table.now) ≡ Some fault) }
+{
+    let value = value_at(table, key)?;
+    match value.as_array() {
+        Some(list) if list.len() <= most => Ok(list),
+        Some(_) => Err(Fault {
+            kind: BadKind::OutOfRange,
+            key,
+        }),
+        None => Err(Fault {
+            kind: BadKind::WrongKind,
+            key,
+        }),
+    }
+}
+
+/// The value at a key.
+fn value_at<'a>(table: &'a Table, key: Key) -> Result<&'a Value, Fault>
+    ensures { MatchResult result
+        (λ v. get_member (key_name key) (table_view table.now) ≡ Some (view v.now))
+        (λ f. (get_member (key_name key) (table_view table.now) ≡ None) × (f ≡ record { kind = BadKind.MissingKey; key = key })) }
+{
+    match table.get(key_name(key)) {
+        Some(value) => Ok(value),
+        None => Err(Fault {
+            kind: BadKind::MissingKey,
+            key,
+        }),
+    }
+}
+
+/// The number of a value that is an integer from the first to the second.
+fn number_of(value: &Value, low: u64, high: u64) -> Result<u64, BadKind>
+    ensures { MatchResult result
+        (λ n. (value_fault (numbers low high) (view value.now) ≡ None) × (number_of (view value.now) ≡ n) × (low ≤ n) × (n ≤ high))
+        (λ kind. value_fault (numbers low high) (view value.now) ≡ Some kind) }
+{
+    let Some(whole) = value.as_integer() else {
+        return Err(BadKind::WrongKind);
+    };
+    match u64::try_from(whole) {
+        Ok(n) if low <= n && n <= high => Ok(n),
+        _ => Err(BadKind::OutOfRange),
+    }
+}

@@ -1,0 +1,39 @@
+-- The inputs that a script names.
+use Rattle.std.specs.Prelude.{ℕ, Bool, not, if◌then◌else◌, List, [], ◌∷◌, ◌++◌, filter, Option, Some, None}
+use Rattle.std.specs.List.{filter_map, list_any}
+use Rattle.std.specs.Str.{bytes_eq}
+use Rattle.reset_play.specs.declared.event.Event.{Event}
+use Rattle.reset_play.specs.declared.event.Event.TheVariants.{Time, Drop, Signal, Lay, Poke, Stage, Boot, Arm, Fail, Reset, Show}
+
+-- the input that an event names
+abbrev pub mention : Event → Option (List ℕ)
+mention (Time moment) = None
+mention (Drop file input) = Some input
+mention Signal = None
+mention (Lay at input) = Some input
+mention (Poke at bytes) = None
+mention (Stage at) = None
+mention Boot = None
+mention (Arm after choice) = None
+mention (Fail nth) = None
+mention (Reset cold) = None
+mention Show = None
+
+-- each name once, in order of first mention
+abbrev pub once : List (List ℕ) → List (List ℕ)
+once [] = []
+once (name ∷ names) = name ∷ filter (λ other. not (bytes_eq name other)) (once names)
+
+abbrev pub inputs_of : List Event → List (List ℕ)
+inputs_of events = once (filter_map mention events)
+
+abbrev pub has_name : List ℕ → List (List ℕ) → Bool
+has_name name names = list_any (λ other. bytes_eq other name) names
+
+-- a name goes behind others where it is not among them
+abbrev pub with_name : List (List ℕ) → List ℕ → List (List ℕ)
+with_name names name = if has_name name names then names else names ++ name ∷ []
+
+abbrev pub with_mention : List (List ℕ) → Option (List ℕ) → List (List ℕ)
+with_mention names None = names
+with_mention names (Some name) = with_name names name

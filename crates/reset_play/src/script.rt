@@ -1,0 +1,18 @@
+//! The text of a script, read exactly.
+
+mod events;
+mod faults;
+mod inputs;
+mod limits;
+mod lines;
+mod names;
+mod numbers;
+mod operands;
+mod parts;
+#[cfg(test)]
+mod tests;
+
+pub use faults::{ScriptFault, ScriptKind};
+pub use inputs::script_inputs;
+pub use limits::{MAX_COUNT, MAX_EVENTS, MAX_FILE_NAME, MAX_INPUT_NAME, MAX_POKE_BYTES};
+pub use lines::read_script;

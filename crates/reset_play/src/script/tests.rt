@@ -1,0 +1,250 @@
+//! Scripts worked by hand: each event in form, each way to be refused, and the limits.
+
+use crate::{Event, ScriptFault, ScriptKind, read_script, script_inputs};
+use bench_model::Choice;
+use cu_base::{EfiTime, UNSPECIFIED_ZONE};
+use std::alloc::{AllocError, Global};
+use std::test::Fail;
+
+// An event with borrowed names and bytes.
+#[derive(Clone, Copy)]
+enum Wanted<'a> {
+    Time(EfiTime),
+    Drop(&'a str, &'a str),
+    Signal,
+    Lay(u64, &'a str),
+    Poke(u64, &'a [u8]),
+    Stage(u64),
+    Boot,
+    Arm(u32, Choice),
+    Fail(u32),
+    Reset(bool),
+    Show,
+}
+
+fn is_wanted(event: &Event, wanted: &Wanted<'_>) -> bool {
+    match (event, wanted) {
+        (Event::Time(a), Wanted::Time(b)) => a == b,
+        (Event::Drop { file, input }, Wanted::Drop(a, b)) => {
+            file.as_str() == *a && input.as_str() == *b
+        }
+        (Event::Signal, Wanted::Signal) => true,
+        (Event::Lay { at, input }, Wanted::Lay(a, b)) => at == a && input.as_str() == *b,
+        (Event::Poke { at, bytes }, Wanted::Poke(a, b)) => at == a && bytes.as_slice() == *b,
+        (Event::Stage { at }, Wanted::Stage(a)) => at == a,
+        (Event::Boot, Wanted::Boot) => true,
+        (Event::Arm { after, choice }, Wanted::Arm(a, b)) => after == a && choice == b,
+        (Event::Fail { nth }, Wanted::Fail(a)) => nth == a,
+        (Event::Reset { cold }, Wanted::Reset(a)) => cold == a,
+        (Event::Show, Wanted::Show) => true,
+        _ => false,
+    }
+}
+
+fn noon() -> EfiTime {
+    EfiTime {
+        year: 2024,
+        month: 2,
+        day: 29,
+        hour: 12,
+        minute: 0,
+        second: 0,
+        nanosecond: 0,
+        zone: UNSPECIFIED_ZONE,
+        daylight: 0,
+        pad1: 0,
+        pad2: 0,
+    }
+}
+
+#[test]
+fn each_event_is_read(rt: HostRuntime) -> Result<(), Fail> {
+    let cases = [
+        ("time 2024-02-29T12:00:00", Wanted::Time(noon())),
+        ("drop a.CAP c4", Wanted::Drop("a.CAP", "c4")),
+        ("drop _-.9 !~", Wanted::Drop("_-.9", "!~")),
+        ("signal", Wanted::Signal),
+        ("lay 0 c4", Wanted::Lay(0, "c4")),
+        (
+            "lay ffffFFFFffffFFFF c4",
+            Wanted::Lay(0xffff_ffff_ffff_ffff, "c4"),
+        ),
+        ("poke 0010 00fFA0", Wanted::Poke(0x10, &[0x00, 0xff, 0xa0])),
+        ("stage 1000", Wanted::Stage(0x1000)),
+        ("boot", Wanted::Boot),
+        ("arm 0 new", Wanted::Arm(0, Choice::New)),
+        ("arm 1000000 old", Wanted::Arm(1_000_000, Choice::Old)),
+        ("arm 7 mix", Wanted::Arm(7, Choice::Mix)),
+        ("arm 7 fill a0", Wanted::Arm(7, Choice::Fill(0xa0))),
+        ("fail 1", Wanted::Fail(1)),
+        ("fail 1000000", Wanted::Fail(1_000_000)),
+        ("reset warm", Wanted::Reset(false)),
+        ("reset cold", Wanted::Reset(true)),
+        ("show", Wanted::Show),
+    ];
+    for (line, wanted) in &cases {
+        let script = read_script(rt.alloc(), line.as_bytes())?;
+        assert_eq!(rt; script.len(), 1, "{line}");
+        let event = script.at(0).ok_or("no event")?;
+        assert!(rt; is_wanted(event, wanted), "{line}");
+    }
+    Ok(())
+}
+
+#[test]
+fn operands_out_of_form_are_refused(rt: HostRuntime) -> Result<(), Fail> {
+    let cases = [
+        "time",
+        "time 2023-02-29T12:00:00",
+        "time 2024-02-29T12:00:00 z",
+        "drop a.cap",
+        "drop a.cap c4 c5",
+        "drop  c4",
+        "drop a.cap ",
+        "drop a/b c4",
+        "drop aaaaaaaaaaaaaaaaaaaaaaaaaaaaaaaaaaaaaaaaa c4",
+        "signal ",
+        "signal now",
+        "lay c4",
+        "lay  c4",
+        "lay 00000000000000001 c4",
+        "lay 0x10 c4",
+        "lay 10  c4",
+        "poke 10",
+        "poke 10 ",
+        "poke 10 0",
+        "poke 10 0g",
+        "poke 10 00 00",
+        "stage",
+        "stage g",
+        "stage 00000000000000001",
+        "boot 1",
+        "arm new",
+        "arm 1 newer",
+        "arm 1 New",
+        "arm 1000001 new",
+        "arm 01 new",
+        "arm -1 new",
+        "arm 1 fill",
+        "arm 1 fill a",
+        "arm 1 fill a00",
+        "arm 1 fill a0 a0",
+        "arm 1 new a0",
+        "fail 0",
+        "fail 01",
+        "fail 1000001",
+        "fail 4294967297",
+        "fail 99999999999999999999999999",
+        "reset",
+        "reset hot",
+        "show all",
+    ];
+    for line in cases {
+        let read = read_script(rt.alloc(), line.as_bytes());
+        let wanted = ScriptFault::Bad {
+            line: 1,
+            kind: ScriptKind::BadOperand,
+        };
+        assert_eq!(rt; read.err(), Some(wanted), "{line}");
+    }
+    Ok(())
+}
+
+#[test]
+fn the_first_bad_line_decides(rt: HostRuntime) -> Result<(), Fail> {
+    let cases = [
+        ("an unknown word", "bot", 1, ScriptKind::BadEvent),
+        ("an upper-case word", "Boot", 1, ScriptKind::BadEvent),
+        ("a space before the word", " boot", 1, ScriptKind::BadEvent),
+        (
+            "lines that are skipped count",
+            "# x\n\nboot\nbot",
+            4,
+            ScriptKind::BadEvent,
+        ),
+        ("a tab", "boot\tx", 1, ScriptKind::BadText),
+        ("a delete", "boot\x7f", 1, ScriptKind::BadText),
+        ("a carriage return", "boot\r\nboot", 1, ScriptKind::BadText),
+        (
+            "a letter beyond ASCII",
+            "# caf\u{e9}",
+            1,
+            ScriptKind::BadText,
+        ),
+        ("its text before its word", "bot\t", 1, ScriptKind::BadText),
+        (
+            "its line before a worse one",
+            "fail 0\nboot\t",
+            1,
+            ScriptKind::BadOperand,
+        ),
+        (
+            "a line after the last line feed",
+            "boot\nfail 0",
+            2,
+            ScriptKind::BadOperand,
+        ),
+    ];
+    for (name, text, line, kind) in cases {
+        let read = read_script(rt.alloc(), text.as_bytes());
+        assert_eq!(rt; read.err(), Some(ScriptFault::Bad { line, kind }), "{name}");
+    }
+    Ok(())
+}
+
+fn repeated(alloc: Global, text: &str, times: usize) -> Result<String, AllocError> {
+    let mut all = String::new(alloc);
+    for _ in 0..times {
+        all.push_str(text)?;
+    }
+    Ok(all)
+}
+
+#[test]
+fn a_script_has_at_most_4096_events(rt: HostRuntime) -> Result<(), Fail> {
+    let mut text = repeated(rt.alloc(), "#\nboot\n\n", 4096)?;
+    let full = read_script(rt.alloc(), text.as_bytes())?;
+    assert_eq!(rt; full.len(), 4096);
+    text.push_str("fail 0\n")?;
+    let refused = read_script(rt.alloc(), text.as_bytes());
+    let kind = ScriptKind::BadOperand;
+    assert_eq!(rt;
+        refused.err(),
+        Some(ScriptFault::Bad { line: 12_289, kind })
+    );
+
+    let one_more = repeated(rt.alloc(), "boot\n", 4097)?;
+    let refused = read_script(rt.alloc(), one_more.as_bytes());
+    let kind = ScriptKind::TooMany;
+    assert_eq!(rt; refused.err(), Some(ScriptFault::Bad { line: 4097, kind }));
+    Ok(())
+}
+
+#[test]
+fn a_poke_has_at_most_4096_bytes(rt: HostRuntime) -> Result<(), Fail> {
+    let digits = repeated(rt.alloc(), "a5", 4096)?;
+    let mut text = format!(in rt.alloc(); "poke 0 {digits}")?;
+    let script = read_script(rt.alloc(), text.as_bytes())?;
+    let event = script.at(0).ok_or("no event")?;
+    assert!(rt; is_wanted(event, &Wanted::Poke(0, &[0xa5; 4096])));
+    text.push_str("a5")?;
+    let refused = read_script(rt.alloc(), text.as_bytes());
+    let kind = ScriptKind::BadOperand;
+    assert_eq!(rt; refused.err(), Some(ScriptFault::Bad { line: 1, kind }));
+    Ok(())
+}
+
+#[test]
+fn inputs_are_named_once(rt: HostRuntime) -> Result<(), Fail> {
+    let text = "drop a c2\nlay 0 c1\ndrop b c2\nboot\ndrop c c10\nlay 1 c1\n";
+    let script = read_script(rt.alloc(), text.as_bytes())?;
+    let names = script_inputs(rt.alloc(), &script)?;
+    assert_eq!(rt; names.len(), 3);
+    for (i, wanted) in ["c2", "c1", "c10"].into_iter().enumerate() {
+        let name = names.at(i).ok_or("no name")?;
+        assert_eq!(rt; name.as_str(), wanted);
+    }
+    let none = read_script(rt.alloc(), b"")?;
+    assert!(rt; script_inputs(rt.alloc(), &none)?.is_empty());
+    Ok(())
+}

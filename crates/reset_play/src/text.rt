@@ -1,0 +1,10 @@
+//! The text of a trace.
+
+mod entries;
+mod parts;
+mod picture;
+#[cfg(test)]
+mod tests;
+mod units;
+
+pub use entries::trace_text;
