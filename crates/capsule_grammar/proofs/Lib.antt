@@ -4,3 +4,4 @@ pub mod Lists
 pub mod Read
 pub mod Spelled
 pub mod SizeLemmas
+pub mod RebuiltLemmas

@@ -146,7 +146,7 @@ parts_of_body body header list lead items a b c eh el ed ei ab bc cl =
     let to_end : ((header ++ list) ++ lead) ++ items ≡ take (length body) body = append_both ((header ++ list) ++ lead) (take c body) items (field body c (length body - c)) to_c ei ∙ take_field body c (length body - c) ∙ (let e : c + (length body - c) ≡ length body = omega arith in rw e refl) in
     regroup header list lead items ∙ to_end ∙ take_all (length body) body (omega arith)
 
-same_header : (d d' i i' : ℕ) → d ≡ d' → i ≡ i' → fmp_header_bytes (record { drivers = d; items = i }) ≡ fmp_header_bytes (record { drivers = d'; items = i' })
+pub same_header : (d d' i i' : ℕ) → d ≡ d' → i ≡ i' → fmp_header_bytes (record { drivers = d; items = i }) ≡ fmp_header_bytes (record { drivers = d'; items = i' })
 same_header d d' i i' ed ei = rw (ed, ei) refl
 
 fmp_read : (body : List ℕ) → number_at body 0 4 ≡ 1 → 8 ≤ length body → fmp_header body ≡ Ok (fmp_header_fields body)
@@ -224,7 +224,7 @@ is_front bytes e =
       there = ltb-false _ _ ends.1;
     }
 
-same_sizes : (h : CapsuleHeader) (a b : ℕ) → a ≡ h.header_size → b ≡ h.image_size → capsule_header_bytes (record { guid = h.guid; header_size = a; flags = h.flags; image_size = b }) ≡ capsule_header_bytes h
+pub same_sizes : (h : CapsuleHeader) (a b : ℕ) → a ≡ h.header_size → b ≡ h.image_size → capsule_header_bytes (record { guid = h.guid; header_size = a; flags = h.flags; image_size = b }) ≡ capsule_header_bytes h
 same_sizes h a b ea eb = rw (ea, eb) refl
 
 three_parts : (bytes header ext body : List ℕ) (h s : ℕ) → header ≡ take 28 bytes → ext ≡ field bytes 28 (h - 28) → body ≡ field bytes h (s - h) → 28 ≤ h → h ≤ s → header ++ (ext ++ body) ≡ take s bytes

@@ -2,6 +2,7 @@ pub mod Accepted
 pub mod Faults
 pub mod Fits
 pub mod Reading
+pub mod Rebuilt
 pub mod Refusals
 pub mod Sizes
 pub mod Spelling

@@ -4,7 +4,7 @@
 //! A capsule that fits and is at most 67,108,864 bytes long has one spelling. No spelling begins another. Each
 //! list of bytes begins with a spelling or is refused at one place for one cause, and never both: these are the
 //! laws of `laws`. `check` takes no memory and copies nothing. `decode` gives the capsule in blobs of its own, and
-//! `encode` writes it.
+//! `encode` writes it. `rebuild` writes the capsule at the front of bytes again without its lead and its pads.
 #![tactic(auto)]
 
 mod checking;
@@ -15,6 +15,7 @@ mod fitting;
 mod header;
 pub mod laws;
 mod reading;
+mod rebuilding;
 mod refusal;
 mod sizes;
 #[cfg(test)]
@@ -26,5 +27,6 @@ pub use decoding::decode;
 pub use encoding::encode;
 pub use faults::{DecodeFault, EncodeFault};
 pub use fitting::fits;
+pub use rebuilding::rebuild;
 pub use refusal::{Refusal, Why};
 pub use value::{Body, Capsule, Capsules, FmpBody, Image, Images};

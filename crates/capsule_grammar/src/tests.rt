@@ -1,6 +1,6 @@
 //! Capsules written by hand from the tables of UEFI 2.10, 8.5.3 and 23.3.2.
 
-use crate::{Body, Capsule, DecodeFault, Refusal, Why, check, decode, encode, fits};
+use crate::{Body, Capsule, DecodeFault, Refusal, Why, check, decode, encode, fits, rebuild};
 use cu_base::Blob;
 use std::alloc::Global;
 use std::process::Abort;
@@ -144,6 +144,26 @@ fn a_lead_and_a_pad_are_kept(rt: HostRuntime) -> Result<(), Fail> {
     } else {
         assert!(rt; false);
     }
+    Ok(())
+}
+
+#[test]
+fn a_rebuild_has_no_lead_and_no_pad(rt: HostRuntime) -> Result<(), Fail> {
+    let alloc = rt.alloc();
+    let mut item = Blob::from_slice(alloc, &[1, 0, 0, 0])?;
+    item.push_slice(&[0; 28])?;
+    let mut body = Blob::from_slice(
+        alloc,
+        &[1, 0, 0, 0, 0, 0, 1, 0, 18, 0, 0, 0, 0, 0, 0, 0, 7, 8],
+    )?;
+    body.push_slice(item.as_slice())?;
+    body.push_slice(&[4, 5, 6])?;
+    let bytes = capsule(alloc, 28, 81, body.as_slice())?;
+    let mut left = Blob::from_slice(alloc, &[1, 0, 0, 0, 0, 0, 1, 0, 16, 0, 0, 0, 0, 0, 0, 0])?;
+    left.push_slice(item.as_slice())?;
+    let wanted = capsule(alloc, 28, 76, left.as_slice())?;
+    let rebuilt = rebuild(alloc, bytes.as_slice())?;
+    assert_eq!(rt; rebuilt.as_slice(), wanted.as_slice());
     Ok(())
 }
 

@@ -1,0 +1,7 @@
+use Rattle.std.proofs.Common.{◌≡◌, ◌++◌, take}
+use Rattle.std.specs.List.{concat}
+use Rattle.capsule_grammar.specs.Rebuilt.{kept_items}
+use Rattle.capsule_grammar.proofs.rebuilding.put_kept_items.Given as goal
+
+abbrev pub invariant-loop-k : goal.invariant-loop-k
+invariant-loop-k l = l.out ≡ l.initial.out ++ concat (take l.k (kept_items l.body))

@@ -1,0 +1,35 @@
+-- A capsule whose lead and pads are empty. All else is kept.
+use Rattle.std.specs.Prelude.{ℕ, ◌-◌, List, [], map, take, nat_lt, if◌then◌else◌}
+use Rattle.std.specs.List.{range_with_len}
+use Rattle.cu_base.specs.Fields.{field, number_at}
+use Rattle.fmp_headers.specs.CapsuleHeader.{header_size}
+use Rattle.capsule_grammar.specs.declared.value.Image.{Image}
+use Rattle.capsule_grammar.specs.declared.value.Body.{Body}
+use Rattle.capsule_grammar.specs.declared.value.Body.TheVariants.{Other, Fmp}
+use Rattle.capsule_grammar.specs.declared.value.Capsule.{Capsule}
+use Rattle.capsule_grammar.specs.Values.{FmpValue}
+use Rattle.capsule_grammar.specs.Refusals.{driver_count, item_count, item, image_parts_size}
+
+abbrev pub without_pad : Image → Image
+without_pad i = record { header = i.header; image = i.image; vendor = i.vendor; pad = [] }
+
+abbrev pub emptied_fmp : FmpValue → FmpValue
+emptied_fmp b = record { lead = []; drivers = b.drivers; images = map without_pad b.images }
+
+abbrev pub emptied_body : Body → Body
+emptied_body (Other blob) = Other blob
+emptied_body (Fmp b) = Fmp (emptied_fmp b)
+
+abbrev pub emptied : Capsule → Capsule
+emptied c = record { guid = c.guid; flags = c.flags; ext = c.ext; body = emptied_body c.body }
+
+-- the capsule of the header at the front of these bytes, with this body
+abbrev pub with_body : List ℕ → Body → Capsule
+with_body bytes body = record { guid = record { bytes = field bytes 0 16 }; flags = number_at bytes 20 4; ext = field bytes 28 (header_size bytes - 28); body = body }
+
+-- the bytes that are kept of item k of a body: all of a driver, and of an image what is not pad
+abbrev pub kept : List ℕ → ℕ → List ℕ
+kept body k = if nat_lt k (driver_count body) then item body k else take (image_parts_size (item body k)) (item body k)
+
+abbrev pub kept_items : List ℕ → List (List ℕ)
+kept_items body = map (kept body) (range_with_len 0 (item_count body))
