@@ -7,14 +7,19 @@ use Rattle.cu_io.specs.Named.{Named, bytes_named}
 use Rattle.cu_io.specs.Streams.{AppendsFront}
 use Rattle.capsule_tool.specs.Answers.{usage, done, refused, later, unread, long}
 use Rattle.capsule_tool.specs.Check.{verdict_of, name_of}
-use Rattle.capsule_tool.specs.Forms.{form_of}
+use Rattle.capsule_grammar.specs.Reading.{capsule_of}
+use Rattle.capsule_grammar.specs.Rebuilt.{emptied}
+use Rattle.capsule_grammar.specs.Spelling.{spelling}
+use Rattle.capsule_tool.specs.Forms.{form_of, work_of}
 use Rattle.capsule_tool.specs.Readings.{IsReading}
 use Rattle.capsule_tool.specs.Statuses.{code_of}
 use Rattle.capsule_tool.specs.declared.answer.Answer.{Answer}
 use Rattle.capsule_tool.specs.declared.check.Verdict.{Verdict}
 use Rattle.capsule_tool.specs.declared.check.Verdict.TheVariants.{Whole as WholeCapsule, Refused, Trailing}
 use Rattle.capsule_tool.specs.declared.form.Form.{Form}
-use Rattle.capsule_tool.specs.declared.form.Form.TheVariants.{Check, Show, Rebuild, Make, Play, Load}
+use Rattle.capsule_tool.specs.declared.form.FileWork.{FileWork}
+use Rattle.capsule_tool.specs.declared.form.FileWork.TheVariants.{Check as CheckFile, Rebuild as RebuildFile}
+use Rattle.capsule_tool.specs.declared.status.Status.TheVariants.{Done}
 use Rattle.capsule_tool.specs.declared.input.Reading.{Reading}
 use Rattle.capsule_tool.specs.declared.input.Reading.TheVariants.{Whole, Unread, Long}
 
@@ -22,51 +27,55 @@ use Rattle.capsule_tool.specs.declared.input.Reading.TheVariants.{Whole, Unread,
 abbrev pub word : List (List ℕ) → ℕ → List ℕ
 word words k = slice_index_or words k []
 
--- what is found of the bytes of a file
-abbrev pub verdict_answer : Verdict → Answer
-verdict_answer (WholeCapsule length) = done length
-verdict_answer (Refused refusal) = refused refusal.at (name_of refusal.why)
-verdict_answer (Trailing at) = refused at (codes "Trailing")
+-- the capsule that is the whole file, without its lead and its pads
+abbrev pub rebuilt : List ℕ → Answer
+rebuilt bytes = record { status = Done; text = spelling (emptied (capsule_of bytes)) }
 
--- what `check` finds, by what came of reading its file
-abbrev pub check_answer : List ℕ → Reading → Answer
-check_answer name (Whole bytes) = verdict_answer (verdict_of bytes)
-check_answer name Unread = unread name
-check_answer name Long = long name
+-- what is done with a file that is one whole capsule
+abbrev pub whole_answer : FileWork → List ℕ → ℕ → Answer
+whole_answer CheckFile bytes length = done length
+whole_answer RebuildFile bytes length = rebuilt bytes
+
+-- what is found of the bytes of a file
+abbrev pub verdict_answer : FileWork → List ℕ → Verdict → Answer
+verdict_answer work bytes (WholeCapsule length) = whole_answer work bytes length
+verdict_answer work bytes (Refused refusal) = refused refusal.at (name_of refusal.why)
+verdict_answer work bytes (Trailing at) = refused at (codes "Trailing")
+
+abbrev pub bytes_answer : FileWork → List ℕ → Answer
+bytes_answer work bytes = verdict_answer work bytes (verdict_of bytes)
+
+-- what is found by what came of reading the file
+abbrev pub file_answer : FileWork → List ℕ → Reading → Answer
+file_answer work name (Whole bytes) = bytes_answer work bytes
+file_answer work name Unread = unread name
+file_answer work name Long = long name
 
 -- what reading a file gives where inputs are told and no call fails
 abbrev pub reading_of : Option (List ℕ) → Reading
 reading_of None = Unread
 reading_of (Some bytes) = if nat_lt MAX_CAPSULE_BYTES (length bytes) then Long else Whole bytes
 
--- what the program finds where inputs are told and no call fails
-abbrev pub told_of : Option Form → List (List ℕ) → Named → Answer
-told_of None words named = usage
-told_of (Some Check) words named = check_answer (word words 1) (reading_of (bytes_named named (word words 1)))
-told_of (Some Show) words named = later (word words 0)
-told_of (Some Rebuild) words named = later (word words 0)
-told_of (Some Make) words named = later (word words 0)
-told_of (Some Play) words named = later (word words 0)
-told_of (Some Load) words named = later (word words 0)
+-- what the program finds where inputs are told and no call fails, by the form of the words and its work on a file
+abbrev pub told_of : Option Form → Option FileWork → List (List ℕ) → Named → Answer
+told_of None work words named = usage
+told_of (Some form) (Some work) words named = file_answer work (word words 1) (reading_of (bytes_named named (word words 1)))
+told_of (Some form) None words named = later (word words 0)
 
 abbrev pub told : List (List ℕ) → Named → Answer
-told words named = told_of (form_of words) words named
+told words named = told_of (form_of words) (work_of (form_of words)) words named
 
--- what the program may find whatever happens outside: for `check`, what one reading of its file gives
-abbrev pub MayFind : Option Form → Option Named → List (List ℕ) → ℕ → ℕ → ℕ → ℕ → Answer → Type 0
-MayFind None named words faults faults' taken taken' answer = answer ≡ usage
-MayFind (Some Check) named words faults faults' taken taken' answer =
-    (reading : Reading) × IsReading named (word words 1) faults faults' taken taken' reading × (answer ≡ check_answer (word words 1) reading)
-MayFind (Some Show) named words faults faults' taken taken' answer = answer ≡ later (word words 0)
-MayFind (Some Rebuild) named words faults faults' taken taken' answer = answer ≡ later (word words 0)
-MayFind (Some Make) named words faults faults' taken taken' answer = answer ≡ later (word words 0)
-MayFind (Some Play) named words faults faults' taken taken' answer = answer ≡ later (word words 0)
-MayFind (Some Load) named words faults faults' taken taken' answer = answer ≡ later (word words 0)
+-- what the program may find whatever happens outside: of a file, what one reading of it gives
+abbrev pub MayFind : Option Form → Option FileWork → Option Named → List (List ℕ) → ℕ → ℕ → ℕ → ℕ → Answer → Type 0
+MayFind None work named words faults faults' taken taken' answer = answer ≡ usage
+MayFind (Some form) (Some work) named words faults faults' taken taken' answer =
+    (reading : Reading) × IsReading named (word words 1) faults faults' taken taken' reading × (answer ≡ file_answer work (word words 1) reading)
+MayFind (Some form) None named words faults faults' taken taken' answer = answer ≡ later (word words 0)
 
--- the names that the words give, in order
-abbrev pub names_of : Option Form → List (List ℕ) → List (List ℕ)
-names_of (Some Check) words = word words 1 ∷ []
-names_of _ words = []
+-- the names that the words give
+abbrev pub names_of : Option FileWork → List (List ℕ) → List (List ℕ)
+names_of (Some work) words = word words 1 ∷ []
+names_of None words = []
 
 -- the answer is written whole and gives the status; or a write failed and the sink's count rose, or memory ran
 -- out, and a prefix of it was written

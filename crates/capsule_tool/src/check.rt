@@ -1,5 +1,6 @@
 ghost use Rattle.std.specs.Prelude.{◌≡◌};
-ghost use Rattle.capsule_tool.specs.Check.{verdict_of, name_of};
+ghost use Rattle.capsule_tool.specs.Check.{verdict_of, name_of, MayBeWhole};
+ghost use Rattle.capsule_grammar.specs.Refusals.{refusal};
 
 use capsule_grammar::{Refusal, Why};
 
@@ -16,7 +17,8 @@ pub enum Verdict {
 
 /// Whether the bytes are one capsule and no more.
 pub fn judge(bytes: &[u8]) -> Verdict
-    ensures { result ≡ verdict_of bytes.now }
+    ensures value { result ≡ verdict_of bytes.now }
+    ensures whole { MayBeWhole result (refusal bytes.now) }
 {
     match capsule_grammar::check(bytes) {
         Ok(length) => {

@@ -1,5 +1,5 @@
-//! `capsule_tool` checks UEFI capsule files. Its words are `check FILE`; the other forms are still to be
-//! built, and answer so.
+//! `capsule_tool` checks and rebuilds UEFI capsule files. Its words are `check FILE` and `rebuild FILE`; the
+//! other forms are still to be built, and answer so.
 //!
 //! `run` is the whole program over inputs and a sink: what it writes and its status are a function of the
 //! words and of the bytes of the inputs, wherever nothing outside fails.
@@ -7,6 +7,7 @@
 
 mod answer;
 mod check;
+mod file;
 mod form;
 mod input;
 mod program;

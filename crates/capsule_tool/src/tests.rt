@@ -48,13 +48,13 @@ fn input<'a>(pieces: &'a [&'a [u8]]) -> Given<'a> {
     }
 }
 
-/// Runs the words and compares status and text.
-fn expect(
+/// Runs the words and compares status and what was written.
+fn expect_bytes(
     rt: &(impl Abort + AllocGlobal),
     words: &[&str],
     given: &Given<'_>,
     status: u8,
-    text: &str,
+    written: &[u8],
 ) -> Result<(), NoMemory> {
     let alloc = rt.alloc();
     let mut list = Names::new(alloc);
@@ -70,9 +70,20 @@ fn expect(
     )?;
     let mut out = MemSink::new(alloc, Numbers::from_slice(alloc, given.write_fails)?);
     let outcome = run(alloc, list.as_slice(), &mut inputs, &mut out);
-    assert_eq!(rt; outcome.status, status, "the status of {text}");
-    assert!(rt; out.as_slice() == text.as_bytes(), "the text {text}");
+    assert_eq!(rt; outcome.status, status);
+    assert!(rt; out.as_slice() == written);
     Ok(())
+}
+
+/// The same for a text.
+fn expect(
+    rt: &(impl Abort + AllocGlobal),
+    words: &[&str],
+    given: &Given<'_>,
+    status: u8,
+    text: &str,
+) -> Result<(), NoMemory> {
+    expect_bytes(rt, words, given, status, text.as_bytes())
 }
 
 #[test]
@@ -249,7 +260,7 @@ fn checks_one_image_of_each_version(rt: HostRuntime) -> Result<(), Fail> {
 }
 
 #[test]
-fn checks_a_lead_and_a_pad(rt: HostRuntime) -> Result<(), Fail> {
+fn rebuilds_without_a_lead_and_a_pad(rt: HostRuntime) -> Result<(), Fail> {
     let padded: [&[u8]; 7] = [
         &FMP,
         &sizes(0x1c, 81),
@@ -260,6 +271,50 @@ fn checks_a_lead_and_a_pad(rt: HostRuntime) -> Result<(), Fail> {
         &[9, 9, 9],
     ];
     expect(&rt, &["check", "a.cap"], &input(&padded), 0, "ok 81\n")?;
+    let plain: [&[u8]; 5] = [
+        &FMP,
+        &sizes(0x1c, 76),
+        &fmp_header(1),
+        &AT_16,
+        &image_header(1, 0),
+    ];
+    let written = joined(rt.alloc(), &plain)?;
+    expect_bytes(
+        &rt,
+        &["rebuild", "a.cap"],
+        &input(&padded),
+        0,
+        written.as_slice(),
+    )?;
+    expect_bytes(
+        &rt,
+        &["rebuild", "a.cap"],
+        &input(&plain),
+        0,
+        written.as_slice(),
+    )?;
+    Ok(())
+}
+
+#[test]
+fn rebuilds_what_follows_the_header(rt: HostRuntime) -> Result<(), Fail> {
+    let with_ext: [&[u8]; 3] = [&GUID, &[0x20], &REST[1..]];
+    let written = joined(rt.alloc(), &with_ext)?;
+    expect_bytes(
+        &rt,
+        &["rebuild", "a.cap"],
+        &input(&with_ext),
+        0,
+        written.as_slice(),
+    )?;
+    expect(
+        &rt,
+        &["rebuild", "a.cap"],
+        &input(&[]),
+        1,
+        "refused 0 Short\n",
+    )?;
+    expect(&rt, &["rebuild", "none"], &input(&[]), 4, "unread none\n")?;
     Ok(())
 }
 
@@ -281,13 +336,6 @@ fn answers_words_of_no_form(rt: HostRuntime) -> Result<(), Fail> {
 #[test]
 fn answers_what_is_built_later(rt: HostRuntime) -> Result<(), Fail> {
     expect(&rt, &["show", "a.cap"], &input(&[]), 8, "later show\n")?;
-    expect(
-        &rt,
-        &["rebuild", "a.cap"],
-        &input(&[]),
-        8,
-        "later rebuild\n",
-    )?;
     expect(&rt, &["make", "a.toml"], &input(&[]), 8, "later make\n")?;
     expect(
         &rt,

@@ -6,22 +6,22 @@ pub returns-in-Ok-clause-exact : goal.returns-in-Ok-clause-exact
 returns-in-Ok-clause-exact g c = λ calm quiet. as_told _ _ _ _ _ _ _ _ _ _ _ _ c.in-Ok.ensures.found c.say.ensures.written calm quiet
 
 pub returns-in-Ok-clause-done : goal.returns-in-Ok-clause-done
-returns-in-Ok-clause-done g c = λ is. judged_run _ _ _ _ _ _ _ _ _ 0 _ _ _ _ c.in-Ok.ensures.found c.say.ensures.written is (omega arith)
+returns-in-Ok-clause-done g c = λ is. judged_run _ _ _ _ _ _ _ _ _ _ 0 _ _ _ _ c.in-Ok.ensures.found c.say.ensures.written is (omega arith)
 
 pub returns-in-Ok-clause-refused : goal.returns-in-Ok-clause-refused
-returns-in-Ok-clause-refused g c = λ is. judged_run _ _ _ _ _ _ _ _ _ 1 _ _ _ _ c.in-Ok.ensures.found c.say.ensures.written is (omega arith)
+returns-in-Ok-clause-refused g c = λ is. judged_run _ _ _ _ _ _ _ _ _ _ 1 _ _ _ _ c.in-Ok.ensures.found c.say.ensures.written is (omega arith)
 
 pub returns-in-Ok-clause-usage : goal.returns-in-Ok-clause-usage
-returns-in-Ok-clause-usage g c = λ is. usage_run _ _ _ _ _ _ _ _ _ _ _ _ _ c.in-Ok.ensures.found c.say.ensures.written is
+returns-in-Ok-clause-usage g c = λ is. usage_run _ _ _ _ _ _ _ _ _ _ _ _ _ _ c.in-Ok.ensures.found c.say.ensures.written is
 
 pub returns-in-Ok-clause-unread : goal.returns-in-Ok-clause-unread
-returns-in-Ok-clause-unread g c = λ is. unread_run _ _ _ _ _ _ _ _ _ _ _ _ _ c.in-Ok.ensures.found c.say.ensures.written is
+returns-in-Ok-clause-unread g c = λ is. unread_run _ _ _ _ _ _ _ _ _ _ _ _ _ _ c.in-Ok.ensures.found c.say.ensures.written is
 
 pub returns-in-Ok-clause-unwritten : goal.returns-in-Ok-clause-unwritten
-returns-in-Ok-clause-unwritten g c = λ is. unwritten_run _ _ _ _ _ _ _ _ _ _ _ _ _ c.in-Ok.ensures.found c.say.ensures.written is
+returns-in-Ok-clause-unwritten g c = λ is. unwritten_run _ _ _ _ _ _ _ _ _ _ _ _ _ _ c.in-Ok.ensures.found c.say.ensures.written is
 
 pub returns-in-Ok-clause-long : goal.returns-in-Ok-clause-long
-returns-in-Ok-clause-long g c = λ is. long_run _ _ _ _ _ _ _ _ _ _ _ _ _ c.in-Ok.ensures.found c.say.ensures.written is
+returns-in-Ok-clause-long g c = λ is. long_run _ _ _ _ _ _ _ _ _ _ _ _ _ _ c.in-Ok.ensures.found c.say.ensures.written is
 
 pub returns-in-Ok-clause-later : goal.returns-in-Ok-clause-later
 returns-in-Ok-clause-later g c = λ is. later_run _ _ _ _ _ _ _ _ _ _ _ _ _ c.in-Ok.ensures.found c.say.ensures.written is

@@ -1,0 +1,90 @@
+//! The work on the one file that the words name.
+ghost use Rattle.std.specs.Prelude.{◌≡◌, ◌≤◌, ◌⊎◌, ◌∷◌, [], ◌++◌, None, IfOk, OnOk, OnErr};
+ghost use Rattle.capsule_grammar.specs.Refusals.{refusal};
+ghost use Rattle.capsule_tool.specs.declared.input.Reading.{Reading};
+ghost use Rattle.capsule_tool.specs.Readings.{IsReading};
+ghost use Rattle.capsule_tool.specs.Told.{file_answer, bytes_answer, whole_answer, rebuilt};
+
+use crate::answer::Answer;
+use crate::check::{Verdict, judge, printed};
+use crate::form::FileWork;
+use crate::input::{Reading, read_input};
+use crate::status::Status;
+use capsule_grammar::DecodeFault;
+use cu_base::{NoMemory, Text};
+use cu_io::Inputs;
+use std::alloc::Global;
+
+/// Reads the file of this name and does its work.
+pub fn on_file<I: Inputs>(
+    alloc: Global,
+    work: FileWork,
+    name: &Text,
+    inputs: &mut I,
+) -> Result<Answer, NoMemory>
+    ensures found { IfOk result (λ answer. (reading : Reading) × IsReading (I.named inputs.old) name.now (I.faults inputs.old) (I.faults inputs.new) (I.taken inputs.old) (I.taken inputs.new) reading × (answer ≡ file_answer work name.now reading)) }
+    ensures asked { OnOk result (I.asked inputs.new ≡ I.asked inputs.old ++ name.now ∷ []) }
+    ensures memory { OnErr result ((I.asked inputs.new ≡ I.asked inputs.old) ⊎ (I.asked inputs.new ≡ I.asked inputs.old ++ name.now ∷ [])) }
+    ensures named { I.named inputs.new ≡ I.named inputs.old }
+    ensures later { I.faults inputs.old ≤ I.faults inputs.new }
+{
+    match read_input(alloc, inputs, name) {
+        Ok(reading) => found_by(alloc, work, name.as_str(), &reading),
+        Err(NoMemory) => Err(NoMemory),
+    }
+}
+
+/// What was found by a reading of the file of this name.
+fn found_by(
+    alloc: Global,
+    work: FileWork,
+    name: &str,
+    reading: &Reading,
+) -> Result<Answer, NoMemory>
+    ensures { IfOk result (λ answer. answer ≡ file_answer work name.now reading.now) }
+{
+    match reading {
+        Reading::Whole(bytes) => on_bytes(alloc, work, bytes.as_slice()),
+        Reading::Unread => Answer::unread(alloc, name),
+        Reading::Long => Answer::long(alloc, name),
+    }
+}
+
+/// What is found of the bytes of the file.
+fn on_bytes(alloc: Global, work: FileWork, bytes: &[u8]) -> Result<Answer, NoMemory>
+    ensures { IfOk result (λ answer. answer ≡ bytes_answer work bytes.now) }
+{
+    match judge(bytes) {
+        Verdict::Whole(length) => on_whole(alloc, work, bytes, length),
+        Verdict::Refused(refusal) => {
+            Answer::refused(alloc, refusal.at as usize, printed(refusal.why))
+        }
+        Verdict::Trailing(at) => Answer::refused(alloc, at, "Trailing"),
+    }
+}
+
+/// The work on a file that is one whole capsule.
+fn on_whole(alloc: Global, work: FileWork, bytes: &[u8], length: usize) -> Result<Answer, NoMemory>
+    requires { refusal bytes.now ≡ None }
+    ensures { IfOk result (λ answer. answer ≡ whole_answer work bytes.now length) }
+{
+    match work {
+        FileWork::Check => Answer::done(alloc, length),
+        FileWork::Rebuild => rebuilt(alloc, bytes),
+    }
+}
+
+/// The capsule at the front of the bytes without its lead and its pads.
+fn rebuilt(alloc: Global, bytes: &[u8]) -> Result<Answer, NoMemory>
+    requires { refusal bytes.now ≡ None }
+    ensures { IfOk result (λ answer. answer ≡ rebuilt bytes.now) }
+{
+    match capsule_grammar::rebuild(alloc, bytes) {
+        Ok(text) => Ok(Answer {
+            status: Status::Done,
+            text,
+        }),
+        Err(DecodeFault::Memory) => Err(NoMemory),
+        Err(DecodeFault::Refused(_)) => unreachable!(),
+    }
+}
