@@ -5,3 +5,5 @@ pub mod Read
 pub mod Spelled
 pub mod SizeLemmas
 pub mod RebuiltLemmas
+pub mod Places
+pub mod BackLemmas

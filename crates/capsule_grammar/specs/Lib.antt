@@ -1,4 +1,5 @@
 pub mod Accepted
+pub mod BackToBack
 pub mod Faults
 pub mod Fits
 pub mod Reading

@@ -3,10 +3,12 @@
 //!
 //! A capsule that fits and is at most 67,108,864 bytes long has one spelling. No spelling begins another. Each
 //! list of bytes begins with a spelling or is refused at one place for one cause, and never both: these are the
-//! laws of `laws`. `check` takes no memory and copies nothing. `decode` gives the capsule in blobs of its own, and
-//! `encode` writes it. `rebuild` writes the capsule at the front of bytes again without its lead and its pads.
+//! laws of `laws`. `check` takes no memory and copies nothing. `decode` gives the capsule in blobs of its own,
+//! `decode_all` one to eight of them back to back, and `encode` writes one. `rebuild` writes the capsule at the
+//! front of bytes again without its lead and its pads.
 #![tactic(auto)]
 
+mod all;
 mod checking;
 mod decoding;
 mod encoding;
@@ -22,6 +24,7 @@ mod sizes;
 mod tests;
 mod value;
 
+pub use all::{MAX_CAPSULES, decode_all};
 pub use checking::check;
 pub use decoding::decode;
 pub use encoding::encode;

@@ -1,6 +1,8 @@
 //! Capsules written by hand from the tables of UEFI 2.10, 8.5.3 and 23.3.2.
 
-use crate::{Body, Capsule, DecodeFault, Refusal, Why, check, decode, encode, fits, rebuild};
+use crate::{
+    Body, Capsule, DecodeFault, Refusal, Why, check, decode, decode_all, encode, fits, rebuild,
+};
 use cu_base::Blob;
 use std::alloc::Global;
 use std::process::Abort;
@@ -195,4 +197,37 @@ fn refusals_reach_the_caller(rt: HostRuntime) {
         }
         _ => assert!(rt; false),
     }
+}
+
+/// Copies of a capsule of another GUID, of 28 bytes each.
+fn copies(alloc: Global, count: u32) -> Result<Blob, Fail> {
+    let mut bytes = Blob::new(alloc);
+    for _ in 0..count {
+        bytes.push_slice(&[9; 16])?;
+        bytes.push_slice(&[28, 0, 0, 0, 0, 0, 0, 0, 28, 0, 0, 0])?;
+    }
+    Ok(bytes)
+}
+
+fn all_refused(rt: &impl Abort, alloc: Global, bytes: &[u8], at: u32, why: Why) {
+    match decode_all(alloc, bytes) {
+        Err(DecodeFault::Refused(refusal)) => assert_eq!(rt; refusal, Refusal { at, why }),
+        _ => assert!(rt; false),
+    }
+}
+
+#[test]
+fn at_most_eight_capsules_back_to_back(rt: HostRuntime) -> Result<(), Fail> {
+    let alloc = rt.alloc();
+    let eight = copies(alloc, 8)?;
+    let capsules = decode_all(alloc, eight.as_slice())?;
+    assert_eq!(rt; capsules.len(), 8);
+    let nine = copies(alloc, 9)?;
+    all_refused(&rt, alloc, nine.as_slice(), 224, Why::TooManyCapsules);
+    all_refused(&rt, alloc, &[], 0, Why::Short);
+    let mut second = copies(alloc, 1)?;
+    let version_2 = capsule(alloc, 28, 36, &[2, 0, 0, 0, 0, 0, 0, 0])?;
+    second.push_slice(version_2.as_slice())?;
+    all_refused(&rt, alloc, second.as_slice(), 56, Why::BadFmpVersion);
+    Ok(())
 }
