@@ -145,37 +145,60 @@ fn checks_the_header_size(rt: HostRuntime) -> Result<(), Fail> {
 }
 
 /// HeaderSize, flags 0x00050000 and CapsuleImageSize.
-fn sizes(header_size: u8, image_size: u8) -> [u8; 12] {
-    [header_size, 0, 0, 0, 0, 0, 5, 0, image_size, 0, 0, 0]
-}
+const SIZES_28_36: [u8; 12] = [0x1c, 0, 0, 0, 0, 0, 5, 0, 36, 0, 0, 0];
 
-/// An FMP header of version 1, no drivers and this many payload items.
-fn fmp_header(items: u8) -> [u8; 8] {
-    [1, 0, 0, 0, 0, 0, items, 0]
-}
+const SIZES_32_40: [u8; 12] = [0x20, 0, 0, 0, 0, 0, 5, 0, 40, 0, 0, 0];
 
-/// The front of an image header: its version, zeros, and UpdateImageSize.
-fn image_header(version: u8, image_size: u8) -> [u8; 32] {
-    let mut bytes = [0u8; 32];
-    bytes[0] = version;
-    bytes[24] = image_size;
-    bytes
-}
+const SIZES_28_84: [u8; 12] = [0x1c, 0, 0, 0, 0, 0, 5, 0, 84, 0, 0, 0];
+
+const SIZES_28_76: [u8; 12] = [0x1c, 0, 0, 0, 0, 0, 5, 0, 76, 0, 0, 0];
+
+const SIZES_28_92: [u8; 12] = [0x1c, 0, 0, 0, 0, 0, 5, 0, 92, 0, 0, 0];
+
+const SIZES_28_81: [u8; 12] = [0x1c, 0, 0, 0, 0, 0, 5, 0, 81, 0, 0, 0];
+
+/// An FMP header of version 1, no drivers and no, one or two payload items.
+const NO_ITEMS: [u8; 8] = [1, 0, 0, 0, 0, 0, 0, 0];
+
+const ONE_ITEM: [u8; 8] = [1, 0, 0, 0, 0, 0, 1, 0];
+
+const TWO_ITEMS: [u8; 8] = [1, 0, 0, 0, 0, 0, 2, 0];
+
+/// Offsets.
+const AT_16: [u8; 8] = [16, 0, 0, 0, 0, 0, 0, 0];
+
+const AT_18: [u8; 8] = [18, 0, 0, 0, 0, 0, 0, 0];
+
+const AT_24: [u8; 8] = [24, 0, 0, 0, 0, 0, 0, 0];
+
+/// The first 32 bytes of an image header: its version, zeros, and UpdateImageSize at 24.
+const IMAGE_1: [u8; 32] = [
+    1, 0, 0, 0, 0, 0, 0, 0, 0, 0, 0, 0, 0, 0, 0, 0, 0, 0, 0, 0, 0, 0, 0, 0, 0, 0, 0, 0, 0, 0, 0, 0,
+];
+
+const IMAGE_2: [u8; 32] = [
+    2, 0, 0, 0, 0, 0, 0, 0, 0, 0, 0, 0, 0, 0, 0, 0, 0, 0, 0, 0, 0, 0, 0, 0, 0, 0, 0, 0, 0, 0, 0, 0,
+];
+
+const IMAGE_3: [u8; 32] = [
+    3, 0, 0, 0, 0, 0, 0, 0, 0, 0, 0, 0, 0, 0, 0, 0, 0, 0, 0, 0, 0, 0, 0, 0, 0, 0, 0, 0, 0, 0, 0, 0,
+];
+
+const IMAGE_4: [u8; 32] = [
+    4, 0, 0, 0, 0, 0, 0, 0, 0, 0, 0, 0, 0, 0, 0, 0, 0, 0, 0, 0, 0, 0, 0, 0, 0, 0, 0, 0, 0, 0, 0, 0,
+];
+
+const IMAGE_3_OF_ONE_BYTE: [u8; 32] = [
+    3, 0, 0, 0, 0, 0, 0, 0, 0, 0, 0, 0, 0, 0, 0, 0, 0, 0, 0, 0, 0, 0, 0, 0, 1, 0, 0, 0, 0, 0, 0, 0,
+];
 
 #[test]
 fn checks_the_offset_list(rt: HostRuntime) -> Result<(), Fail> {
-    let no_items: [&[u8]; 3] = [&FMP, &sizes(0x1c, 0x24), &fmp_header(0)];
+    let no_items: [&[u8]; 3] = [&FMP, &SIZES_28_36, &NO_ITEMS];
     expect(&rt, &["check", "a.cap"], &input(&no_items), 0, "ok 36\n")?;
-    let with_ext: [&[u8]; 4] = [&FMP, &sizes(0x20, 0x28), &[0; 4], &fmp_header(0)];
+    let with_ext: [&[u8]; 4] = [&FMP, &SIZES_32_40, &[0; 4], &NO_ITEMS];
     expect(&rt, &["check", "a.cap"], &input(&with_ext), 0, "ok 40\n")?;
-    let equal: [&[u8]; 6] = [
-        &FMP,
-        &sizes(0x1c, 0x54),
-        &fmp_header(2),
-        &[24, 0, 0, 0, 0, 0, 0, 0],
-        &[24, 0, 0, 0, 0, 0, 0, 0],
-        &[0; 32],
-    ];
+    let equal: [&[u8]; 6] = [&FMP, &SIZES_28_84, &TWO_ITEMS, &AT_24, &AT_24, &[0; 32]];
     expect(
         &rt,
         &["check", "a.cap"],
@@ -194,46 +217,20 @@ fn checks_the_offset_list(rt: HostRuntime) -> Result<(), Fail> {
     Ok(())
 }
 
-const AT_16: [u8; 8] = [16, 0, 0, 0, 0, 0, 0, 0];
-
-const AT_18: [u8; 8] = [18, 0, 0, 0, 0, 0, 0, 0];
-
 #[test]
 fn checks_one_image_of_each_version(rt: HostRuntime) -> Result<(), Fail> {
-    let first: [&[u8]; 5] = [
-        &FMP,
-        &sizes(0x1c, 76),
-        &fmp_header(1),
-        &AT_16,
-        &image_header(1, 0),
-    ];
+    let first: [&[u8]; 5] = [&FMP, &SIZES_28_76, &ONE_ITEM, &AT_16, &IMAGE_1];
     expect(&rt, &["check", "a.cap"], &input(&first), 0, "ok 76\n")?;
-    let second: [&[u8]; 6] = [
-        &FMP,
-        &sizes(0x1c, 84),
-        &fmp_header(1),
-        &AT_16,
-        &image_header(2, 0),
-        &[0; 8],
-    ];
+    let second: [&[u8]; 6] = [&FMP, &SIZES_28_84, &ONE_ITEM, &AT_16, &IMAGE_2, &[0; 8]];
     expect(&rt, &["check", "a.cap"], &input(&second), 0, "ok 84\n")?;
-    let third: [&[u8]; 6] = [
-        &FMP,
-        &sizes(0x1c, 92),
-        &fmp_header(1),
-        &AT_16,
-        &image_header(3, 0),
-        &[0; 16],
-    ];
+    let third: [&[u8]; 6] = [&FMP, &SIZES_28_92, &ONE_ITEM, &AT_16, &IMAGE_3, &[0; 16]];
     expect(&rt, &["check", "a.cap"], &input(&third), 0, "ok 92\n")?;
-    let fourth: [&[u8]; 6] = [
-        &FMP,
-        &sizes(0x1c, 92),
-        &fmp_header(1),
-        &AT_16,
-        &image_header(4, 0),
-        &[0; 16],
-    ];
+    Ok(())
+}
+
+#[test]
+fn refuses_images(rt: HostRuntime) -> Result<(), Fail> {
+    let fourth: [&[u8]; 6] = [&FMP, &SIZES_28_92, &ONE_ITEM, &AT_16, &IMAGE_4, &[0; 16]];
     expect(
         &rt,
         &["check", "a.cap"],
@@ -243,10 +240,10 @@ fn checks_one_image_of_each_version(rt: HostRuntime) -> Result<(), Fail> {
     )?;
     let outside: [&[u8]; 6] = [
         &FMP,
-        &sizes(0x1c, 92),
-        &fmp_header(1),
+        &SIZES_28_92,
+        &ONE_ITEM,
         &AT_16,
-        &image_header(3, 1),
+        &IMAGE_3_OF_ONE_BYTE,
         &[0; 16],
     ];
     expect(
@@ -263,21 +260,15 @@ fn checks_one_image_of_each_version(rt: HostRuntime) -> Result<(), Fail> {
 fn rebuilds_without_a_lead_and_a_pad(rt: HostRuntime) -> Result<(), Fail> {
     let padded: [&[u8]; 7] = [
         &FMP,
-        &sizes(0x1c, 81),
-        &fmp_header(1),
+        &SIZES_28_81,
+        &ONE_ITEM,
         &AT_18,
         &[7, 7],
-        &image_header(1, 0),
+        &IMAGE_1,
         &[9, 9, 9],
     ];
     expect(&rt, &["check", "a.cap"], &input(&padded), 0, "ok 81\n")?;
-    let plain: [&[u8]; 5] = [
-        &FMP,
-        &sizes(0x1c, 76),
-        &fmp_header(1),
-        &AT_16,
-        &image_header(1, 0),
-    ];
+    let plain: [&[u8]; 5] = [&FMP, &SIZES_28_76, &ONE_ITEM, &AT_16, &IMAGE_1];
     let written = joined(rt.alloc(), &plain)?;
     expect_bytes(
         &rt,

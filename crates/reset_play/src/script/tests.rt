@@ -1,9 +1,10 @@
 //! Scripts worked by hand: each event in form, each way to be refused, and the limits.
 
-use crate::{Event, ScriptFault, ScriptKind, read_script, script_inputs};
+use crate::{Event, Script, ScriptFault, ScriptKind, read_script, script_inputs};
 use bench_model::Choice;
 use cu_base::{EfiTime, UNSPECIFIED_ZONE};
 use std::alloc::{AllocError, Global};
+use std::process::Abort;
 use std::test::Fail;
 
 // An event with borrowed names and bytes.
@@ -41,6 +42,30 @@ fn is_wanted(event: &Event, wanted: &Wanted<'_>) -> bool {
     }
 }
 
+// Reads the text of a test, which is short.
+fn read(rt: &impl Abort, alloc: Global, text: &str) -> Result<Script, ScriptFault> {
+    assert!(rt; text.len() < 1_000_000);
+    read_script(alloc, text.as_bytes())
+}
+
+// The line says this event alone.
+fn says(rt: &impl Abort, alloc: Global, line: &str, wanted: Wanted<'_>) {
+    match read(rt, alloc, line) {
+        Ok(script) => {
+            assert_eq!(rt; script.len(), 1, "{line}");
+            let event = script.at(0).expect(rt, "an event");
+            assert!(rt; is_wanted(event, &wanted), "{line}");
+        }
+        Err(fault) => panic!(rt; "{line}: {fault}"),
+    }
+}
+
+// The text is refused at this line, for this reason.
+fn refuses(rt: &impl Abort, alloc: Global, text: &str, line: u32, kind: ScriptKind) {
+    let answer = read(rt, alloc, text).err();
+    assert_eq!(rt; answer, Some(ScriptFault::Bad { line, kind }), "{text}");
+}
+
 fn noon() -> EfiTime {
     EfiTime {
         year: 2024,
@@ -58,41 +83,63 @@ fn noon() -> EfiTime {
 }
 
 #[test]
-fn each_event_is_read(rt: HostRuntime) -> Result<(), Fail> {
-    let cases = [
-        ("time 2024-02-29T12:00:00", Wanted::Time(noon())),
-        ("drop a.CAP c4", Wanted::Drop("a.CAP", "c4")),
-        ("drop _-.9 !~", Wanted::Drop("_-.9", "!~")),
-        ("signal", Wanted::Signal),
-        ("lay 0 c4", Wanted::Lay(0, "c4")),
-        (
-            "lay ffffFFFFffffFFFF c4",
-            Wanted::Lay(0xffff_ffff_ffff_ffff, "c4"),
-        ),
-        ("poke 0010 00fFA0", Wanted::Poke(0x10, &[0x00, 0xff, 0xa0])),
-        ("stage 1000", Wanted::Stage(0x1000)),
-        ("boot", Wanted::Boot),
-        ("arm 0 new", Wanted::Arm(0, Choice::New)),
-        ("arm 1000000 old", Wanted::Arm(1_000_000, Choice::Old)),
-        ("arm 7 mix", Wanted::Arm(7, Choice::Mix)),
-        ("arm 7 fill a0", Wanted::Arm(7, Choice::Fill(0xa0))),
-        ("fail 1", Wanted::Fail(1)),
-        ("fail 1000000", Wanted::Fail(1_000_000)),
-        ("reset warm", Wanted::Reset(false)),
-        ("reset cold", Wanted::Reset(true)),
-        ("show", Wanted::Show),
-    ];
-    for (line, wanted) in &cases {
-        let script = read_script(rt.alloc(), line.as_bytes())?;
-        assert_eq!(rt; script.len(), 1, "{line}");
-        let event = script.at(0).ok_or("no event")?;
-        assert!(rt; is_wanted(event, wanted), "{line}");
-    }
-    Ok(())
+fn events_of_deliveries_are_read(rt: HostRuntime) {
+    says(
+        &rt,
+        rt.alloc(),
+        "time 2024-02-29T12:00:00",
+        Wanted::Time(noon()),
+    );
+    says(
+        &rt,
+        rt.alloc(),
+        "drop a.CAP c4",
+        Wanted::Drop("a.CAP", "c4"),
+    );
+    says(&rt, rt.alloc(), "drop _-.9 !~", Wanted::Drop("_-.9", "!~"));
+    says(&rt, rt.alloc(), "signal", Wanted::Signal);
+    says(&rt, rt.alloc(), "lay 0 c4", Wanted::Lay(0, "c4"));
+    says(
+        &rt,
+        rt.alloc(),
+        "lay ffffFFFFffffFFFF c4",
+        Wanted::Lay(0xffff_ffff_ffff_ffff, "c4"),
+    );
+    says(
+        &rt,
+        rt.alloc(),
+        "poke 0010 00fFA0",
+        Wanted::Poke(0x10, b"\x00\xff\xa0"),
+    );
+    says(&rt, rt.alloc(), "stage 1000", Wanted::Stage(0x1000));
+    says(&rt, rt.alloc(), "boot", Wanted::Boot);
 }
 
 #[test]
-fn operands_out_of_form_are_refused(rt: HostRuntime) -> Result<(), Fail> {
+fn events_of_faults_are_read(rt: HostRuntime) {
+    says(&rt, rt.alloc(), "arm 0 new", Wanted::Arm(0, Choice::New));
+    says(
+        &rt,
+        rt.alloc(),
+        "arm 1000000 old",
+        Wanted::Arm(1_000_000, Choice::Old),
+    );
+    says(&rt, rt.alloc(), "arm 7 mix", Wanted::Arm(7, Choice::Mix));
+    says(
+        &rt,
+        rt.alloc(),
+        "arm 7 fill a0",
+        Wanted::Arm(7, Choice::Fill(0xa0)),
+    );
+    says(&rt, rt.alloc(), "fail 1", Wanted::Fail(1));
+    says(&rt, rt.alloc(), "fail 1000000", Wanted::Fail(1_000_000));
+    says(&rt, rt.alloc(), "reset warm", Wanted::Reset(false));
+    says(&rt, rt.alloc(), "reset cold", Wanted::Reset(true));
+    says(&rt, rt.alloc(), "show", Wanted::Show);
+}
+
+#[test]
+fn operands_out_of_form_are_refused(rt: HostRuntime) {
     let cases = [
         "time",
         "time 2023-02-29T12:00:00",
@@ -140,56 +187,27 @@ fn operands_out_of_form_are_refused(rt: HostRuntime) -> Result<(), Fail> {
         "show all",
     ];
     for line in cases {
-        let read = read_script(rt.alloc(), line.as_bytes());
-        let wanted = ScriptFault::Bad {
-            line: 1,
-            kind: ScriptKind::BadOperand,
-        };
-        assert_eq!(rt; read.err(), Some(wanted), "{line}");
+        refuses(&rt, rt.alloc(), line, 1, ScriptKind::BadOperand);
     }
-    Ok(())
 }
 
 #[test]
-fn the_first_bad_line_decides(rt: HostRuntime) -> Result<(), Fail> {
-    let cases = [
-        ("an unknown word", "bot", 1, ScriptKind::BadEvent),
-        ("an upper-case word", "Boot", 1, ScriptKind::BadEvent),
-        ("a space before the word", " boot", 1, ScriptKind::BadEvent),
-        (
-            "lines that are skipped count",
-            "# x\n\nboot\nbot",
-            4,
-            ScriptKind::BadEvent,
-        ),
-        ("a tab", "boot\tx", 1, ScriptKind::BadText),
-        ("a delete", "boot\x7f", 1, ScriptKind::BadText),
-        ("a carriage return", "boot\r\nboot", 1, ScriptKind::BadText),
-        (
-            "a letter beyond ASCII",
-            "# caf\u{e9}",
-            1,
-            ScriptKind::BadText,
-        ),
-        ("its text before its word", "bot\t", 1, ScriptKind::BadText),
-        (
-            "its line before a worse one",
-            "fail 0\nboot\t",
-            1,
-            ScriptKind::BadOperand,
-        ),
-        (
-            "a line after the last line feed",
-            "boot\nfail 0",
-            2,
-            ScriptKind::BadOperand,
-        ),
-    ];
-    for (name, text, line, kind) in cases {
-        let read = read_script(rt.alloc(), text.as_bytes());
-        assert_eq!(rt; read.err(), Some(ScriptFault::Bad { line, kind }), "{name}");
-    }
-    Ok(())
+fn the_first_bad_line_decides(rt: HostRuntime) {
+    // A word that is no event, a space before the word, and a line behind lines that are skipped.
+    refuses(&rt, rt.alloc(), "bot", 1, ScriptKind::BadEvent);
+    refuses(&rt, rt.alloc(), "Boot", 1, ScriptKind::BadEvent);
+    refuses(&rt, rt.alloc(), " boot", 1, ScriptKind::BadEvent);
+    refuses(&rt, rt.alloc(), "# x\n\nboot\nbot", 4, ScriptKind::BadEvent);
+    // A tab, a delete, a carriage return, and a letter beyond ASCII.
+    refuses(&rt, rt.alloc(), "boot\tx", 1, ScriptKind::BadText);
+    refuses(&rt, rt.alloc(), "boot\x7f", 1, ScriptKind::BadText);
+    refuses(&rt, rt.alloc(), "boot\r\nboot", 1, ScriptKind::BadText);
+    refuses(&rt, rt.alloc(), "# caf\u{e9}", 1, ScriptKind::BadText);
+    // The text of a line before its word, and a line before the next.
+    refuses(&rt, rt.alloc(), "bot\t", 1, ScriptKind::BadText);
+    refuses(&rt, rt.alloc(), "fail 0\nboot\t", 1, ScriptKind::BadOperand);
+    // The last line lacks its line feed.
+    refuses(&rt, rt.alloc(), "boot\nfail 0", 2, ScriptKind::BadOperand);
 }
 
 fn repeated(alloc: Global, text: &str, times: usize) -> Result<String, AllocError> {
@@ -203,20 +221,25 @@ fn repeated(alloc: Global, text: &str, times: usize) -> Result<String, AllocErro
 #[test]
 fn a_script_has_at_most_4096_events(rt: HostRuntime) -> Result<(), Fail> {
     let mut text = repeated(rt.alloc(), "#\nboot\n\n", 4096)?;
-    let full = read_script(rt.alloc(), text.as_bytes())?;
+    let full = read(&rt, rt.alloc(), text.as_str())?;
     assert_eq!(rt; full.len(), 4096);
     text.push_str("fail 0\n")?;
-    let refused = read_script(rt.alloc(), text.as_bytes());
-    let kind = ScriptKind::BadOperand;
-    assert_eq!(rt;
-        refused.err(),
-        Some(ScriptFault::Bad { line: 12_289, kind })
+    refuses(
+        &rt,
+        rt.alloc(),
+        text.as_str(),
+        12_289,
+        ScriptKind::BadOperand,
     );
 
     let one_more = repeated(rt.alloc(), "boot\n", 4097)?;
-    let refused = read_script(rt.alloc(), one_more.as_bytes());
-    let kind = ScriptKind::TooMany;
-    assert_eq!(rt; refused.err(), Some(ScriptFault::Bad { line: 4097, kind }));
+    refuses(
+        &rt,
+        rt.alloc(),
+        one_more.as_str(),
+        4097,
+        ScriptKind::TooMany,
+    );
     Ok(())
 }
 
@@ -224,27 +247,24 @@ fn a_script_has_at_most_4096_events(rt: HostRuntime) -> Result<(), Fail> {
 fn a_poke_has_at_most_4096_bytes(rt: HostRuntime) -> Result<(), Fail> {
     let digits = repeated(rt.alloc(), "a5", 4096)?;
     let mut text = format!(in rt.alloc(); "poke 0 {digits}")?;
-    let script = read_script(rt.alloc(), text.as_bytes())?;
-    let event = script.at(0).ok_or("no event")?;
-    assert!(rt; is_wanted(event, &Wanted::Poke(0, &[0xa5; 4096])));
+    let script = read(&rt, rt.alloc(), text.as_str())?;
+    assert_eq!(rt; script.len(), 1);
     text.push_str("a5")?;
-    let refused = read_script(rt.alloc(), text.as_bytes());
-    let kind = ScriptKind::BadOperand;
-    assert_eq!(rt; refused.err(), Some(ScriptFault::Bad { line: 1, kind }));
+    refuses(&rt, rt.alloc(), text.as_str(), 1, ScriptKind::BadOperand);
     Ok(())
 }
 
 #[test]
 fn inputs_are_named_once(rt: HostRuntime) -> Result<(), Fail> {
     let text = "drop a c2\nlay 0 c1\ndrop b c2\nboot\ndrop c c10\nlay 1 c1\n";
-    let script = read_script(rt.alloc(), text.as_bytes())?;
+    let script = read(&rt, rt.alloc(), text)?;
     let names = script_inputs(rt.alloc(), &script)?;
     assert_eq!(rt; names.len(), 3);
     for (i, wanted) in ["c2", "c1", "c10"].into_iter().enumerate() {
         let name = names.at(i).ok_or("no name")?;
         assert_eq!(rt; name.as_str(), wanted);
     }
-    let none = read_script(rt.alloc(), b"")?;
+    let none = read(&rt, rt.alloc(), "")?;
     assert!(rt; script_inputs(rt.alloc(), &none)?.is_empty());
     Ok(())
 }
