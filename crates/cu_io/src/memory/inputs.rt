@@ -1,4 +1,4 @@
-ghost use Rattle.std.specs.Prelude.{◌≡◌, ℕ, ◌+◌, ◌-◌, ◌^◌, ◌∷◌, [], ◌++◌, ◌⊎◌, ◌↔◌, min, Contains, Some, IfOk, IsErrOf, OnOk, OnErr};
+ghost use Rattle.std.specs.Prelude.{◌≡◌, ℕ, ◌+◌, ◌-◌, ◌^◌, ◌≤◌, ◌∷◌, [], ◌++◌, ◌⊎◌, ◌↔◌, min, Contains, Some, IfOk, IsErrOf, OnOk, OnErr};
 ghost use Rattle.cu_base.specs.Causes.{HasCauseOf};
 ghost use Rattle.cu_io.specs.Named.{LacksName, bytes_named, Opens, IsMissing};
 ghost use Rattle.cu_io.specs.Numbered.{one_more};
@@ -88,6 +88,9 @@ impl Inputs for MemInputs {
         ensures fails { IsErrOf result OpenFault.Failed → Contains self.old.open_fails (one_more self.old.calls) }
         ensures struck { Contains self.old.open_fails (one_more self.old.calls) → IsErrOf result OpenFault.Failed ⊎ IsErrOf result OpenFault.Memory }
         ensures source { IfOk result (λ src. (src.fails ≡ self.old.read_fails) × (src.calls ≡ 0)) }
+        ensures calls { self.new.calls ≡ one_more self.old.calls }
+        ensures faults { IsErrOf result OpenFault.Failed ⊎ (self.new.faults ≡ self.old.faults) }
+        ensures failed { IsErrOf result OpenFault.Failed → self.new.faults ≡ one_more self.old.faults }
         ensures frame { (self.new.open_fails ≡ self.old.open_fails) × (self.new.read_fails ≡ self.old.read_fails) }
     {
         self.calls = self.calls.saturating_add(1);
@@ -104,7 +107,16 @@ impl Inputs for MemInputs {
         source_of(alloc, bytes, self.read_fails.as_slice()).map_err(|_| OpenFault::Memory)
     }
 
-    fn fold(&mut self, src: MemSource) {
+    fn fold(&mut self, src: MemSource)
+        ensures asked { self.new.asked ≡ self.old.asked }
+        ensures named { self.new.named ≡ self.old.named }
+        ensures taken { self.new.taken ≡ min (self.old.taken + src.taken) (2 ^ 64 - 1) }
+        ensures faults { self.new.faults ≡ min (self.old.faults + src.faults) (2 ^ 64 - 1) }
+        ensures later { self.old.faults ≤ self.new.faults }
+
+        ensures calls { self.new.calls ≡ self.old.calls }
+        ensures frame { (self.new.open_fails ≡ self.old.open_fails) × (self.new.read_fails ≡ self.old.read_fails) }
+    {
         self.known.count(src.taken());
         self.faults = self.faults.saturating_add(src.faults());
     }

@@ -65,6 +65,9 @@ impl Sink for MemSink {
         ensures fails { IsErrOf result SinkFault.Failed ↔ Contains self.old.fails (one_more self.old.calls) }
         ensures calls { (self.new.calls ≡ one_more self.old.calls) × (self.new.fails ≡ self.old.fails) }
         ensures whole { IfOk result (λ n. n ≡ length bytes.now) }
+        ensures faults { IfOk result (λ _. self.new.faults ≡ self.old.faults) }
+        ensures failed { IsErrOf result SinkFault.Failed → self.new.faults ≡ one_more self.old.faults }
+        ensures memory { IsErrOf result SinkFault.Memory → self.new.faults ≡ self.old.faults }
     {
         self.calls = self.calls.saturating_add(1);
         if self.fails.as_slice().contains(&self.calls) {
