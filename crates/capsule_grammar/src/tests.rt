@@ -1,7 +1,8 @@
 //! Capsules written by hand from the tables of UEFI 2.10, 8.5.3 and 23.3.2.
 
 use crate::{
-    Body, Capsule, DecodeFault, Refusal, Why, check, decode, decode_all, encode, fits, rebuild,
+    Body, Capsule, DecodeFault, Refusal, Why, check, decode, decode_all, encode, fits, is_rebuilt,
+    rebuild,
 };
 use cu_base::{Blob, put_u16, put_u32, put_u64};
 use std::alloc::Global;
@@ -251,6 +252,14 @@ fn a_lead_and_a_pad_are_kept(rt: HostRuntime) -> Result<(), Fail> {
     Ok(())
 }
 
+/// Whether a rebuild leaves an accepted capsule as it is.
+fn stays(bytes: &[u8]) -> Option<bool> {
+    match check(bytes) {
+        Ok(_) => Some(is_rebuilt(bytes)),
+        Err(_) => None,
+    }
+}
+
 #[test]
 fn a_rebuild_has_no_lead_and_no_pad(rt: HostRuntime) -> Result<(), Fail> {
     let alloc = rt.alloc();
@@ -268,6 +277,8 @@ fn a_rebuild_has_no_lead_and_no_pad(rt: HostRuntime) -> Result<(), Fail> {
     let wanted = capsule(alloc, 28, 76, left.as_slice())?;
     let rebuilt = rebuild(alloc, bytes.as_slice())?;
     assert_eq!(rt; rebuilt.as_slice(), wanted.as_slice());
+    assert_eq!(rt; stays(bytes.as_slice()), Some(false));
+    assert_eq!(rt; stays(wanted.as_slice()), Some(true));
     Ok(())
 }
 
