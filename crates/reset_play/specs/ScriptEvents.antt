@@ -2,7 +2,7 @@
 use Rattle.std.specs.Prelude.{ℕ, Bool, true, false, codes, if◌then◌else◌, List, [], ◌∷◌, Option, Some, None, option_and_then, option_map, ok_or, Result, Err}
 use Rattle.std.specs.Result.{result_ok}
 use Rattle.std.specs.Str.{bytes_eq}
-use Rattle.cu_base.specs.Times.{time_of_text}
+use Rattle.cu_base.specs.Times.{time_of_text, ◌>>=◌}
 use Rattle.bench_model.specs.declared.choice.Choice.{Choice}
 use Rattle.bench_model.specs.declared.choice.Choice.TheVariants.{New, Old, Mix, Fill}
 use Rattle.reset_play.specs.declared.event.Event.{Event}
@@ -11,11 +11,6 @@ use Rattle.reset_play.specs.declared.script.limits.TheConstants.{MAX_COUNT}
 use Rattle.reset_play.specs.declared.script.faults.ScriptKind.{ScriptKind}
 use Rattle.reset_play.specs.declared.script.faults.ScriptKind.TheVariants.{BadEvent, BadOperand}
 use Rattle.reset_play.specs.ScriptWords.{is_file_name, is_input_name, number_within, address, hex_number, hex_bytes}
-
--- what the second makes of the first, where that is there
-infixl 10 ◌>>=◌
-abbrev pub ◌>>=◌ : {A B : Type 0} → Option A → (A → Option B) → Option B
-o >>= f = option_and_then f o
 
 -- a word, where it passes a test
 abbrev pub where_it : (List ℕ → Bool) → List ℕ → Option (List ℕ)
