@@ -6,6 +6,7 @@ pub mod Laws
 pub mod Machine
 pub mod Names
 pub mod Order
+pub mod Plays
 pub mod Report
 pub mod Results
 pub mod Samples
