@@ -28,6 +28,7 @@ pub fn read_whole<S: Source>(alloc: Global, source: &mut S, limit: u32) -> Resul
     ensures all { IfOk result (λ bytes. TakesAll (S.left source.old) (S.left source.new) bytes) }
     ensures short { IfOk result (λ bytes. length bytes ≤ limit) }
     ensures too_long { IsErrOf result ReadFault.TooLong → TakesMore limit (S.left source.old) (S.left source.new) }
+    ensures counted { IfOk result (λ bytes. RoseBy (length bytes) (S.taken source.old) (S.taken source.new)) }
     ensures taken { IsErrOf result ReadFault.TooLong → RoseBy (limit + 1) (S.taken source.old) (S.taken source.new) }
     ensures err { OnErr result (TakesSome (limit + 1) (S.left source.old) (S.left source.new)) }
     ensures cause { HasCauseOf ReadFault.Read (S.faults source.old) (S.faults source.new) result }
