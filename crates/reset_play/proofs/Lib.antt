@@ -1,6 +1,7 @@
 pub mod Apart
 pub mod Ending
 pub mod Floors
+pub mod FolderLemmas
 pub mod Going
 pub mod Keeping
 pub mod Keyed
