@@ -14,4 +14,5 @@ pub mod SampleTexts
 pub mod ScriptLemmas
 pub mod ScriptNames
 pub mod ScriptSpelled
+pub mod SpentLemmas
 pub mod TextLemmas
