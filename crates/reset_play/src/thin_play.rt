@@ -5,6 +5,8 @@ mod delivery;
 mod folder;
 mod running;
 mod spent;
+#[cfg(test)]
+mod tests;
 mod verdict;
 
 pub use delivery::is_thin_on;

@@ -38,8 +38,9 @@ pub struct PlainParts<'a> {
     pub payload: &'a [u8],
 }
 
+// Whether GUID, HeaderSize and CapsuleImageSize of the capsule header are those of a thin delivery.
 fn has_thin_header(bytes: &[u8]) -> bool
-    requires { 92 ≤ length bytes.now }
+    requires { THIN_HEADER_BYTES ≤ length bytes.now }
     ensures { result ≡ has_thin_header bytes.now }
 {
     guid_at(bytes, 0).bytes == FMP_CAPSULE_GUID.bytes
@@ -47,8 +48,9 @@ fn has_thin_header(bytes: &[u8]) -> bool
         && u32_at(bytes, 24) as usize == bytes.len()
 }
 
+// Whether the FMP header has version 1, no driver and one item, which stands right behind its offset.
 fn has_thin_body(bytes: &[u8]) -> bool
-    requires { 92 ≤ length bytes.now }
+    requires { THIN_HEADER_BYTES ≤ length bytes.now }
     ensures { result ≡ has_thin_body bytes.now }
 {
     u32_at(bytes, 28) == 1
@@ -57,8 +59,9 @@ fn has_thin_body(bytes: &[u8]) -> bool
         && u64_at(bytes, 36) == 16
 }
 
+// Whether the image header has version 3 and support 0, and image and vendor code end with the bytes.
 fn has_thin_image(bytes: &[u8]) -> bool
-    requires { 92 ≤ length bytes.now }
+    requires { THIN_HEADER_BYTES ≤ length bytes.now }
     ensures { result ≡ has_thin_image bytes.now }
 {
     u32_at(bytes, 44) == 3
@@ -111,12 +114,14 @@ pub fn is_thin_on(board: &Board, bytes: &[u8]) -> bool
     }
 }
 
+// Whether the item has a target among the devices.
 fn has_target(item: &ThinItem<'_>, devices: &[Device]) -> bool
     ensures { result ≡ list_any (is_target (item_of item.now).head) devices.now }
 {
     devices.iter().any(|device| is_target(item, device))
 }
 
+// Whether the payload header of the image is refused.
 fn is_refused(image: &[u8]) -> bool
     ensures { result ≡ is_refused image.now }
 {

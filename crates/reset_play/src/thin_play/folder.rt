@@ -92,9 +92,7 @@ pub fn position_of(files: &[StoredFile<'_>], name: &str) -> Option<usize>
 pub fn has_file(files: &[StoredFile<'_>], name: &str) -> bool
     ensures { result ≡ list_any (λ x. is_same_name x.name name.now) files.now }
 {
-    files
-        .iter()
-        .any(|file| is_same_name(file.name(), name))
+    files.iter().any(|file| is_same_name(file.name(), name))
 }
 
 /// Whether a file has this serial.
@@ -138,10 +136,7 @@ fn place_of(files: &[StoredFile<'_>], name: &str) -> usize
 }
 
 // Puts a file before the first that is taken after it.
-fn put_in_order<'a>(
-    ordered: &mut Vec<StoredFile<'a>>,
-    file: StoredFile<'a>,
-) -> Result<(), NoMemory>
+fn put_in_order<'a>(ordered: &mut Vec<StoredFile<'a>>, file: StoredFile<'a>) -> Result<(), NoMemory>
     ensures { OnOk result (ordered.new.items ≡ inserted (λ a b. is_taken_before a.name b.name) file.entry ordered.old.items) }
 {
     let place = place_of(ordered, file.name());
