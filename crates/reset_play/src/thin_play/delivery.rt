@@ -24,17 +24,24 @@ pub const PAYLOAD_SIGNATURE: [u8; 4] = *b"MSS1";
 /// What a thin delivery says.
 #[derive(Clone, Copy)]
 pub struct ThinItem<'a> {
+    /// UpdateImageTypeId.
     pub type_id: Guid,
+    /// UpdateImageIndex.
     pub index: u8,
+    /// UpdateHardwareInstance.
     pub instance: u64,
+    /// The update image.
     pub image: &'a [u8],
 }
 
 /// The parts of an update image of support 0.
 #[derive(Clone, Copy)]
 pub struct PlainParts<'a> {
+    /// FwVersion of the payload header.
     pub version: u32,
+    /// LowestSupportedVersion of the payload header.
     pub lowest: u32,
+    /// What stands behind the payload header.
     pub payload: &'a [u8],
 }
 
