@@ -1,6 +1,7 @@
 pub mod Apart
 pub mod Ending
 pub mod Floors
+pub mod FolderLemmas
 pub mod Going
 pub mod Keeping
 pub mod Keyed
@@ -13,4 +14,7 @@ pub mod SampleTexts
 pub mod ScriptLemmas
 pub mod ScriptNames
 pub mod ScriptSpelled
+pub mod SpentLemmas
 pub mod TextLemmas
+pub mod ThinLemmas
+pub mod VerdictLemmas

@@ -6,6 +6,7 @@ pub mod Laws
 pub mod Machine
 pub mod Names
 pub mod Order
+pub mod Plays
 pub mod Report
 pub mod Results
 pub mod Samples
@@ -18,5 +19,6 @@ pub mod ScriptWords
 pub mod Spent
 pub mod Texts
 pub mod Thin
+pub mod ThinValues
 pub mod Told
 pub mod Verdicts

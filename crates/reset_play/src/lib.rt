@@ -11,6 +11,7 @@ mod report;
 mod script;
 mod snapshot;
 mod text;
+mod thin_play;
 mod trace;
 mod unit;
 
@@ -28,6 +29,7 @@ pub use script::{
 };
 pub use snapshot::{CapsuleResult, EsrtEntry, FmpResult, FolderFile, Snapshot, StagedPair};
 pub use text::trace_text;
+pub use thin_play::{is_thin_on, play};
 pub use trace::{Answer, BootEnd, Entry};
 pub use unit::{End, Kind, UnitKey, UnitLine};
 

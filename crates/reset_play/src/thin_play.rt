@@ -1,0 +1,13 @@
+//! Plays on lists: the plain program of the reference machine, for a board of one device and deliveries
+//! by file.
+
+mod delivery;
+mod folder;
+mod running;
+mod spent;
+#[cfg(test)]
+mod tests;
+mod verdict;
+
+pub use delivery::is_thin_on;
+pub use running::play;
