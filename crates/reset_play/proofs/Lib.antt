@@ -1,5 +1,6 @@
 pub mod Apart
 pub mod Ending
+pub mod Finishing
 pub mod Floors
 pub mod Going
 pub mod Keeping

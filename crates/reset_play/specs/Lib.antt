@@ -21,3 +21,4 @@ pub mod Texts
 pub mod Thin
 pub mod Told
 pub mod Verdicts
+pub mod Whole
