@@ -8,6 +8,7 @@ pub mod Keyed
 pub mod Keys
 pub mod Lists
 pub mod Once
+pub mod OneUnit
 pub mod Ordered
 pub mod Reached
 pub mod SampleTexts

@@ -13,7 +13,7 @@ use std::alloc::Global;
 
 /// Plays a script on a board of one device: one entry is appended for each event, in order. After want of
 /// memory the entries of a front of the script were appended.
-#[tactic(auto, using(crate::proofs::Finishing::boot_finish))]
+#[tactic(auto, using(crate::proofs::OneUnit::works_marked))]
 pub fn play(
     alloc: Global,
     board: &Board,
