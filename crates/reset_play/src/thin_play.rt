@@ -1,6 +1,11 @@
 //! Plays on lists: the plain program of the reference machine, for a board of one device and deliveries
 //! by file.
 
+mod delivery;
+mod folder;
 mod running;
+mod spent;
+mod verdict;
 
+pub use delivery::is_thin_on;
 pub use running::play;

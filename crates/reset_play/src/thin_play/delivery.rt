@@ -1,0 +1,142 @@
+//! What a thin delivery says, and what its image does.
+
+ghost use Rattle.std.specs.Prelude.{◌≡◌, ◌≤◌, ℕ, length, option_map};
+ghost use Rattle.std.specs.List.{list_any};
+ghost use Rattle.reset_play.specs.Deliveries.{is_target};
+ghost use Rattle.reset_play.specs.Plays.{is_thin_on};
+ghost use Rattle.reset_play.specs.Thin.{has_thin_header, has_thin_body, has_thin_image, is_thin, is_refused, plain_parts};
+ghost use Rattle.reset_play.specs.ThinValues.{thin_head, item_of, thin_said, parts_of};
+
+use bench_model::{Board, Device};
+use cu_base::Guid;
+use fmp_headers::{FMP_CAPSULE_GUID, guid_at, u16_at, u32_at, u64_at};
+
+/// The bytes before the image of a thin delivery: a capsule header, an FMP header with one offset and an
+/// image header of version 3.
+pub const THIN_HEADER_BYTES: usize = 92;
+
+/// The fewest bytes of a payload header: signature, size, version and lowest supported version.
+pub const PAYLOAD_HEADER_BYTES: usize = 16;
+
+/// The signature of a payload header.
+pub const PAYLOAD_SIGNATURE: [u8; 4] = *b"MSS1";
+
+/// What a thin delivery says.
+#[derive(Clone, Copy)]
+pub struct ThinItem<'a> {
+    pub type_id: Guid,
+    pub index: u8,
+    pub instance: u64,
+    pub image: &'a [u8],
+}
+
+/// The parts of an update image of support 0.
+#[derive(Clone, Copy)]
+pub struct PlainParts<'a> {
+    pub version: u32,
+    pub lowest: u32,
+    pub payload: &'a [u8],
+}
+
+fn has_thin_header(bytes: &[u8]) -> bool
+    requires { 92 ≤ length bytes.now }
+    ensures { result ≡ has_thin_header bytes.now }
+{
+    guid_at(bytes, 0).bytes == FMP_CAPSULE_GUID.bytes
+        && u32_at(bytes, 16) == 28
+        && u32_at(bytes, 24) as usize == bytes.len()
+}
+
+fn has_thin_body(bytes: &[u8]) -> bool
+    requires { 92 ≤ length bytes.now }
+    ensures { result ≡ has_thin_body bytes.now }
+{
+    u32_at(bytes, 28) == 1
+        && u16_at(bytes, 32) == 0
+        && u16_at(bytes, 34) == 1
+        && u64_at(bytes, 36) == 16
+}
+
+fn has_thin_image(bytes: &[u8]) -> bool
+    requires { 92 ≤ length bytes.now }
+    ensures { result ≡ has_thin_image bytes.now }
+{
+    u32_at(bytes, 44) == 3
+        && u64_at(bytes, 84) == 0
+        && THIN_HEADER_BYTES + u32_at(bytes, 68) as usize + u32_at(bytes, 72) as usize
+            == bytes.len()
+}
+
+fn is_thin(bytes: &[u8]) -> bool
+    ensures { result ≡ is_thin bytes.now }
+{
+    THIN_HEADER_BYTES <= bytes.len()
+        && has_thin_header(bytes)
+        && has_thin_body(bytes)
+        && has_thin_image(bytes)
+}
+
+/// What the delivery says. None exactly where it is not thin.
+pub fn read_thin(bytes: &[u8]) -> Option<ThinItem<'_>>
+    ensures { option_map item_of result ≡ thin_said bytes.now }
+{
+    if !is_thin(bytes) {
+        return None;
+    }
+    let size = u32_at(bytes, 68) as usize;
+    Some(ThinItem {
+        type_id: guid_at(bytes, 48),
+        index: bytes[64],
+        instance: u64_at(bytes, 76),
+        image: &bytes[THIN_HEADER_BYTES..THIN_HEADER_BYTES + size],
+    })
+}
+
+// Whether the item has the device as target.
+fn is_target(item: &ThinItem<'_>, device: &Device) -> bool
+    ensures { result ≡ is_target (item_of item.now).head device.now }
+{
+    item.type_id.bytes == device.type_id.bytes
+        && item.index == device.index
+        && (item.instance == 0 || item.instance == device.instance)
+}
+
+/// Whether the bytes are a thin delivery that has a target on the board.
+pub fn is_thin_on(board: &Board, bytes: &[u8]) -> bool
+    ensures { result ≡ is_thin_on board.now bytes.now }
+{
+    match read_thin(bytes) {
+        Some(item) => has_target(&item, board.devices()),
+        None => false,
+    }
+}
+
+fn has_target(item: &ThinItem<'_>, devices: &[Device]) -> bool
+    ensures { result ≡ list_any (is_target (item_of item.now).head) devices.now }
+{
+    devices.iter().any(|device| is_target(item, device))
+}
+
+fn is_refused(image: &[u8]) -> bool
+    ensures { result ≡ is_refused image.now }
+{
+    image.len() < PAYLOAD_HEADER_BYTES
+        || &image[..4] != PAYLOAD_SIGNATURE.as_slice()
+        || (u32_at(image, 4) as usize) < PAYLOAD_HEADER_BYTES
+        || image.len() < u32_at(image, 4) as usize
+}
+
+/// The parts of an update image of support 0. None exactly where its payload header is refused.
+pub fn read_parts(image: &[u8]) -> Option<PlainParts<'_>>
+    ensures { (support : ℕ) → option_map parts_of result ≡ plain_parts image.now support }
+{
+    if is_refused(image) {
+        return None;
+    }
+    let size = u32_at(image, 4) as usize;
+    Some(PlainParts {
+        version: u32_at(image, 8),
+        lowest: u32_at(image, 12),
+        payload: &image[size..],
+    })
+}

@@ -1,0 +1,122 @@
+//! The attempts of a play on lists, in order, and what is read off them.
+
+ghost use Rattle.std.specs.Prelude.{◌≡◌, ◌==◌, ◌&&◌, not, count_by, slice_get, Some};
+ghost use Rattle.std.specs.List.{list_any};
+ghost use Rattle.reset_play.specs.Spent.{is_of, is_on, is_open, is_closed, is_sealed, floor_of, spent};
+
+use crate::{End, UnitKey};
+use bench_model::{Board, Device};
+use cu_base::{Guid, Items};
+use std::marker::Model;
+
+/// Whether an attempt is open, or how it ended.
+#[derive(Clone, Copy, Debug, PartialEq, Eq)]
+pub enum Standing {
+    Open,
+    Closed(End),
+}
+
+/// An attempt of a play on lists. Contracts see the element of the list of spent units.
+#[derive(Drop)]
+pub struct SpentTry<'a> {
+    pub key: UnitKey,
+    pub type_id: Guid,
+    pub index: u8,
+    pub instance: u64,
+    pub version: u32,
+    pub floor: u32,
+    pub payload: &'a [u8],
+    pub standing: Standing,
+}
+
+impl<'a> Model for SpentTry<'a> {
+    ghost use Rattle.reset_play.specs.Spent.{Element};
+    ghost use Rattle.reset_play.specs.ThinValues.{attempt_of, thin_head};
+
+    ghost Value = { Element };
+
+    ghost view = { λ s. attempt_of s.key (thin_head s.type_id s.index s.instance) s.version s.floor s.payload.now s.standing };
+}
+
+/// Attempts in order.
+pub type SpentTries<'a> = Items<SpentTry<'a>>;
+
+fn is_open(attempt: &SpentTry<'_>) -> bool
+    ensures { result ≡ is_open attempt.now }
+{
+    match attempt.standing {
+        Standing::Open => true,
+        Standing::Closed(_) => false,
+    }
+}
+
+fn is_closed(attempt: &SpentTry<'_>) -> bool
+    ensures { result ≡ is_closed attempt.now }
+{
+    !is_open(attempt)
+}
+
+// Whether it left an image on the first device.
+fn is_sealed_on_first(attempt: &SpentTry<'_>) -> bool
+    ensures { result ≡ (is_on 0 attempt.now && is_sealed attempt.now) }
+{
+    attempt.key.device == 0
+        && match attempt.standing {
+            Standing::Closed(End::Sealed) => true,
+            Standing::Closed(End::Refused(_)) => false,
+            Standing::Closed(End::Kept) => false,
+            Standing::Closed(End::Lost) => false,
+            Standing::Open => false,
+        }
+}
+
+/// The first device of the board.
+pub fn first_device(board: &Board) -> &Device
+    ensures { Some result.now ≡ slice_get board.now.devices 0 }
+{
+    match board.devices().first() {
+        Some(device) => device,
+        None => unreachable!(),
+    }
+}
+
+/// The floor in force of the first device.
+pub fn floor_in_force(board: &Board, list: &[SpentTry<'_>]) -> u32
+    ensures { result ≡ floor_of board.now list.now 0 }
+{
+    let mut floor = first_device(board).floor;
+    for attempt in list {
+        if is_sealed_on_first(attempt) {
+            floor = floor.max(attempt.floor);
+        }
+    }
+    floor
+}
+
+/// How many attempts are closed.
+pub fn closed_count(list: &[SpentTry<'_>]) -> usize
+    ensures { result ≡ count_by is_closed list.now }
+{
+    list.iter().filter(|attempt| is_closed(attempt)).count()
+}
+
+// Whether it is a closed attempt of the file of a serial.
+fn is_spent_of(attempt: &SpentTry<'_>, serial: u64) -> bool
+    ensures { result ≡ (is_of 1 serial (attempt.now).key && is_closed attempt.now) }
+{
+    attempt.key.ticket.route == 1 && attempt.key.ticket.serial == serial && is_closed(attempt)
+}
+
+/// Whether a unit of the file of a serial is spent.
+pub fn is_file_spent(list: &[SpentTry<'_>], serial: u64) -> bool
+    ensures { result ≡ not (spent list.now serial == 0) }
+{
+    list.iter().any(|attempt| is_spent_of(attempt, serial))
+}
+
+/// Whether an attempt is open.
+pub fn has_open(list: &[SpentTry<'_>]) -> bool
+    ensures { result ≡ list_any is_open list.now }
+{
+    list.iter().any(|attempt| is_open(attempt))
+}
