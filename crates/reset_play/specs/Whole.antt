@@ -1,6 +1,9 @@
 -- A boot by whole pieces of work: a unit that is claimed is settled at once. A boot that nothing stops comes to the same.
-use Rattle.std.specs.Prelude.{List, [], ◌∷◌, ◌++◌, Bool, Option, None, Some, ◌==◌, map, not, if◌then◌else◌}
+use Rattle.std.specs.Prelude.{◌≤◌, IsTrue, true, length, List, [], ◌∷◌, ◌++◌, Bool, Option, None, Some, ◌==◌, map, not, if◌then◌else◌}
+use Rattle.std.specs.List.{list_all}
+use Rattle.bench_model.specs.Boards.{BoardValue}
 use Rattle.cu_base.specs.declared.ticket.Ticket.{Ticket}
+use Rattle.reset_play.specs.declared.limits.TheConstants.{MAX_FILES}
 use Rattle.reset_play.specs.declared.report.Report.{Report}
 use Rattle.reset_play.specs.declared.unit.End.TheVariants.{Sealed}
 use Rattle.reset_play.specs.declared.unit.Kind.TheVariants.{Try, Heal}
@@ -10,8 +13,9 @@ use Rattle.reset_play.specs.Boots.Work.{Settles, Does, Removes}
 use Rattle.reset_play.specs.Deliveries.{BootUnit, fmp_guid}
 use Rattle.reset_play.specs.Formats.{Formats, Item}
 use Rattle.reset_play.specs.Machine.{File, Machine}
+use Rattle.reset_play.specs.Plays.{has_one_device, is_thin_on}
 use Rattle.reset_play.specs.Report.{report_of}
-use Rattle.reset_play.specs.Spent.{Element, spent}
+use Rattle.reset_play.specs.Spent.{Element, is_open, is_closed, spent}
 use Rattle.reset_play.specs.Thin.{thin_item}
 
 -- a boot of which nothing is left
@@ -56,3 +60,21 @@ marks_of list files = map (λ x. not (spent list x.serial == 0)) files
 abbrev pub heal_work : Option Element → List Work
 heal_work None = []
 heal_work (Some e) = Settles Heal Sealed ∷ []
+
+-- the element that is open, if any, as the rest of a list
+abbrev pub held : Option Element → List Element
+held None = []
+held (Some e) = e ∷ []
+
+-- the platform's one open element, if any, is open
+abbrev pub is_held_open : Option Element → Bool
+is_held_open None = true
+is_held_open (Some e) = is_open e
+
+-- what holds of each platform: one device, few files, each thin with a target, and only the last element may be open
+pub record IsPlatform (board : BoardValue) (files : List File) (closed : List Element) (claimed : Option Element) : Type 0 where
+  pub one : IsTrue (has_one_device board)
+  pub few : length files ≤ MAX_FILES
+  pub thin : IsTrue (list_all (λ x. is_thin_on board x.bytes) files)
+  pub closed_before : IsTrue (list_all is_closed closed)
+  pub open_last : IsTrue (is_held_open claimed)

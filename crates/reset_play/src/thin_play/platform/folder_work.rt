@@ -1,0 +1,1 @@
+//! The work of a boot on the folder.
