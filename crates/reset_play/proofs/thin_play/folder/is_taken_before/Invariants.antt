@@ -1,6 +1,0 @@
-use Rattle.std.proofs.Common.{ℕ}
-use Rattle.reset_play.proofs.thin_play.folder.is_taken_before.Given as goal
-abbrev pub invariant-bytes : goal.invariant-bytes
-invariant-bytes l = ?
-abbrev pub decreases-bytes : goal.decreases-bytes
-decreases-bytes l = ?
