@@ -2,6 +2,7 @@ pub mod Apart
 pub mod Ending
 pub mod Finishing
 pub mod Floors
+pub mod FolderLemmas
 pub mod Going
 pub mod Held
 pub mod Keeping
@@ -16,4 +17,5 @@ pub mod SampleTexts
 pub mod ScriptLemmas
 pub mod ScriptNames
 pub mod ScriptSpelled
+pub mod SpentLemmas
 pub mod TextLemmas

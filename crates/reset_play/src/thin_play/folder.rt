@@ -1,9 +1,8 @@
 //! The update folder of a play on lists.
 
-ghost use Rattle.std.specs.Prelude.{◌≡◌, ◌≤◌, length, IfOk, insert, position};
-ghost use Rattle.std.specs.List.{list_any};
+ghost use Rattle.std.specs.Prelude.{◌≡◌, ◌≤◌, length, IfOk, OnOk, position};
+ghost use Rattle.std.specs.List.{list_any, position_or_len};
 ghost use Rattle.reset_play.specs.Boots.{is_file};
-ghost use Rattle.reset_play.specs.Machine.{File};
 ghost use Rattle.reset_play.specs.Names.{is_same_name, is_taken_before};
 ghost use Rattle.reset_play.specs.Order.{in_order, inserted};
 
@@ -25,6 +24,15 @@ impl<'a> Model for StoredFile<'a> {
     ghost Value = { File };
 
     ghost view = { λ f. record { name = f.name; serial = f.serial; bytes = f.bytes.now } };
+}
+
+impl<'a> StoredFile<'a> {
+    /// The name of the file.
+    pub fn name(&self) -> &str
+        ensures { result.now ≡ self.now.name }
+    {
+        self.name.as_str()
+    }
 }
 
 /// Whether two names name one file: they differ in case alone.
@@ -77,7 +85,7 @@ pub fn position_of(files: &[StoredFile<'_>], name: &str) -> Option<usize>
 {
     files
         .iter()
-        .position(|file| is_same_name(file.name.as_str(), name))
+        .position(|file| is_same_name(file.name(), name))
 }
 
 /// Whether a file has this name.
@@ -86,7 +94,7 @@ pub fn has_file(files: &[StoredFile<'_>], name: &str) -> bool
 {
     files
         .iter()
-        .any(|file| is_same_name(file.name.as_str(), name))
+        .any(|file| is_same_name(file.name(), name))
 }
 
 /// Whether a file has this serial.
@@ -100,7 +108,7 @@ pub fn has_serial(files: &[StoredFile<'_>], serial: u64) -> bool
 fn copy_of<'a>(alloc: Global, file: &StoredFile<'a>) -> Result<StoredFile<'a>, NoMemory>
     ensures { IfOk result (λ copy. copy ≡ file.now) }
 {
-    let name = Text::from_str(alloc, file.name.as_str())?;
+    let name = Text::from_str(alloc, file.name())?;
     Ok(StoredFile {
         name,
         serial: file.serial,
@@ -108,21 +116,43 @@ fn copy_of<'a>(alloc: Global, file: &StoredFile<'a>) -> Result<StoredFile<'a>, N
     })
 }
 
-// The place before the first file that is taken after one of this name.
-fn place_of(files: &[StoredFile<'_>], name: &str) -> usize
-    ensures bound { result ≤ length files.now }
-    ensures place { (file : File) → file.name ≡ name.now →
-        inserted (λ a b. is_taken_before a.name b.name) file files.now ≡ insert files.now result file }
+// The place of the first file that is taken after one of this name.
+fn first_behind(files: &[StoredFile<'_>], name: &str) -> Option<usize>
+    ensures { result ≡ position (λ x. is_taken_before name.now x.name) files.now }
 {
-    for (i, file) in files.iter().enumerate() {
-        if is_taken_before(name, file.name.as_str()) {
-            return i;
-        }
+    files
+        .iter()
+        .position(|file| is_taken_before(name, file.name()))
+}
+
+// How many files stand before the first that is taken after one of this name.
+#[tactic(auto, using(crate::proofs::FolderLemmas::none_passes, crate::proofs::FolderLemmas::place_at_most))]
+fn place_of(files: &[StoredFile<'_>], name: &str) -> usize
+    ensures place { result ≡ position_or_len (λ x. is_taken_before name.now x.name) files.now }
+    ensures bound { result ≤ length files.now }
+{
+    match first_behind(files, name) {
+        Some(place) => place,
+        None => files.len(),
     }
-    files.len()
+}
+
+// Puts a file before the first that is taken after it.
+fn put_in_order<'a>(
+    ordered: &mut Vec<StoredFile<'a>>,
+    file: StoredFile<'a>,
+) -> Result<(), NoMemory>
+    ensures { OnOk result (ordered.new.items ≡ inserted (λ a b. is_taken_before a.name b.name) file.entry ordered.old.items) }
+{
+    let place = place_of(ordered, file.name());
+    if ordered.insert(place, file).is_err() {
+        return Err(NoMemory);
+    }
+    Ok(())
 }
 
 /// The files in the order in which a boot takes them, each with a name of its own.
+#[tactic(auto, using(crate::proofs::FolderLemmas::one_more_in_order))]
 pub fn ordered_files<'a>(
     alloc: Global,
     files: &[StoredFile<'a>],
@@ -130,12 +160,10 @@ pub fn ordered_files<'a>(
     ensures { IfOk result (λ ordered. ordered.items ≡ in_order (λ a b. is_taken_before a.name b.name) files.now) }
 {
     let mut ordered = Vec::new(alloc);
-    for file in files.iter().rev() {
-        let place = place_of(&ordered, file.name.as_str());
-        let copy = copy_of(alloc, file)?;
-        if ordered.insert(place, copy).is_err() {
-            return Err(NoMemory);
-        }
+    let mut left = files.len();
+    'files: while left > 0 {
+        left -= 1;
+        put_in_order(&mut ordered, copy_of(alloc, &files[left])?)?;
     }
     Ok(ordered)
 }

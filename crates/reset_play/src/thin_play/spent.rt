@@ -1,6 +1,6 @@
 //! The attempts of a play on lists, in order, and what is read off them.
 
-ghost use Rattle.std.specs.Prelude.{◌≡◌, ◌==◌, ◌&&◌, not, count_by, slice_get, Some};
+ghost use Rattle.std.specs.Prelude.{◌≡◌, ◌==◌, ◌&&◌, not, max, if◌then◌else◌, count_by, slice_get, Some};
 ghost use Rattle.std.specs.List.{list_any};
 ghost use Rattle.reset_play.specs.Spent.{is_of, is_on, is_open, is_closed, is_sealed, floor_of, spent};
 
@@ -80,15 +80,25 @@ pub fn first_device(board: &Board) -> &Device
     }
 }
 
+// The floor in force behind one more attempt.
+fn floor_behind(floor: u32, attempt: &SpentTry<'_>) -> u32
+    ensures { result ≡ (if is_on 0 attempt.now && is_sealed attempt.now then max floor (attempt.now).floor else floor) }
+{
+    if is_sealed_on_first(attempt) {
+        floor.max(attempt.floor)
+    } else {
+        floor
+    }
+}
+
 /// The floor in force of the first device.
+#[tactic(auto, using(crate::proofs::SpentLemmas::floors_from))]
 pub fn floor_in_force(board: &Board, list: &[SpentTry<'_>]) -> u32
     ensures { result ≡ floor_of board.now list.now 0 }
 {
     let mut floor = first_device(board).floor;
     for attempt in list {
-        if is_sealed_on_first(attempt) {
-            floor = floor.max(attempt.floor);
-        }
+        floor = floor_behind(floor, attempt);
     }
     floor
 }
@@ -107,11 +117,18 @@ fn is_spent_of(attempt: &SpentTry<'_>, serial: u64) -> bool
     attempt.key.ticket.route == 1 && attempt.key.ticket.serial == serial && is_closed(attempt)
 }
 
+// Whether some attempt is a closed one of the file of a serial.
+fn has_spent_of(list: &[SpentTry<'_>], serial: u64) -> bool
+    ensures { result ≡ list_any (λ e. is_of 1 serial e.key && is_closed e) list.now }
+{
+    list.iter().any(|attempt| is_spent_of(attempt, serial))
+}
+
 /// Whether a unit of the file of a serial is spent.
 pub fn is_file_spent(list: &[SpentTry<'_>], serial: u64) -> bool
     ensures { result ≡ not (spent list.now serial == 0) }
 {
-    list.iter().any(|attempt| is_spent_of(attempt, serial))
+    has_spent_of(list, serial)
 }
 
 /// Whether an attempt is open.
