@@ -3,6 +3,7 @@ pub mod Ending
 pub mod Finishing
 pub mod Floors
 pub mod FolderLemmas
+pub mod FolderFiles
 pub mod Going
 pub mod Held
 pub mod Keeping

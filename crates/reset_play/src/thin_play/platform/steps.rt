@@ -1,6 +1,7 @@
 //! The steps of a boot.
 
 ghost use Rattle.std.specs.Prelude.{◌≡◌, ◌≤◌, ◌+◌, ◌++◌, ◌∷◌, [], ◌^◌, IsTrue, not, ◌==◌, filter, find, None, IfOk, OnOk, OnErr, OnSome, IsSome};
+ghost use Rattle.std.specs.List.{list_any};
 ghost use Rattle.reset_play.specs.Boots.{kept_with, with_element, with_claim, with_lines, one_step, next_line};
 ghost use Rattle.reset_play.specs.Boots.Work.{Settles, Removes, Clears};
 ghost use Rattle.reset_play.specs.Report.{report_of};
@@ -18,13 +19,19 @@ use crate::{End, Kind, Report, Serials, UnitKey};
 use cu_base::NoMemory;
 use std::alloc::Global;
 
+// Whether a serial is kept.
+fn is_kept(kept: &[u64], serial: u64) -> bool
+    ensures { result ≡ list_any (λ s. s == serial) kept.now }
+{
+    kept.iter().any(|known| *known == serial)
+}
+
 // Keeps the serial of the key's file, where it is not kept yet.
 fn keep(kept: &mut Serials, key: &UnitKey) -> Result<(), NoMemory>
-    ensures ok { OnOk result (kept.new.items ≡ kept_with kept.old.items key.now) }
+    ensures { OnOk result (kept.new.items ≡ kept_with kept.old.items key.now) }
 {
     let serial = key.ticket.serial;
-    let is_kept = kept.as_slice().iter().any(|known| *known == serial);
-    if key.ticket.route == 1 && !is_kept {
+    if key.ticket.route == 1 && !is_kept(kept.as_slice(), serial) {
         kept.push(serial)?;
     }
     Ok(())
