@@ -47,13 +47,13 @@ all_more p (x ∷ xs) y all h = both (p x) _ (both_left (p x) _ all) (all_more p
     both true b h k = k
     both false b h k = h
 
+shorter_by : {X : Type 0} (gone : X → Bool) (xs : List X) → (list_any gone xs ≡ true → length (filter (λ x. not (gone x)) xs) + 1 ≤ length xs) → (x : X) (b : Bool) → (b || list_any gone xs) ≡ true → length (cond (not b) (x ∷ filter (λ x. not (gone x)) xs) (filter (λ x. not (gone x)) xs)) + 1 ≤ suc (length xs)
+shorter_by gone xs ih x true k = let h : length (filter (λ x. not (gone x)) xs) ≤ length xs = filter_short (λ x. not (gone x)) xs in omega arith
+shorter_by gone xs ih x false k = let h : length (filter (λ x. not (gone x)) xs) + 1 ≤ length xs = ih k in omega arith
+
 shorter : {X : Type 0} (gone : X → Bool) (xs : List X) → list_any gone xs ≡ true → length (filter (λ x. not (gone x)) xs) + 1 ≤ length xs
 shorter gone [] h = cc
-shorter gone (x ∷ xs) h = by_test (gone x) h
-  where
-    by_test : (b : Bool) → (b || list_any gone xs) ≡ true → length (cond (not b) (x ∷ filter (λ x. not (gone x)) xs) (filter (λ x. not (gone x)) xs)) + 1 ≤ suc (length xs)
-    by_test true k = let h : length (filter (λ x. not (gone x)) xs) ≤ length xs = filter_short (λ x. not (gone x)) xs in omega arith
-    by_test false k = let h : length (filter (λ x. not (gone x)) xs) + 1 ≤ length xs = shorter gone xs k in omega arith
+shorter gone (x ∷ xs) h = shorter_by gone xs (shorter gone xs) x (gone x) h
 
 length_more : {X : Type 0} (xs : List X) (y : X) → length (xs ++ y ∷ []) ≡ length xs + 1
 length_more [] y = refl

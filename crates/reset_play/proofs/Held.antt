@@ -4,13 +4,19 @@ use Rattle.std.proofs.lemmas.List.Sums.{length-filter}
 use Rattle.std.specs.List.{list_all}
 use Rattle.bench_model.specs.Boards.{BoardValue}
 use Rattle.reset_play.specs.declared.unit.UnitLine.{UnitLine}
-use Rattle.reset_play.specs.Machine.{File, first_moment}
+use Rattle.reset_play.specs.Machine.{File, Machine, first_moment}
 use Rattle.cu_base.specs.declared.time.EfiTime.{EfiTime}
 use Rattle.reset_play.specs.declared.unit.End.{End}
-use Rattle.reset_play.specs.Boots.{Progress, closed_with}
+use Rattle.reset_play.specs.declared.unit.End.TheVariants.{Sealed}
+use Rattle.reset_play.specs.declared.unit.Kind.{Kind}
+use Rattle.reset_play.specs.Boots.{Progress, closed_with, kept_with, next_line, settled_with, with_lines}
+use Rattle.reset_play.specs.Boots.Work.{Settles}
+use Rattle.reset_play.specs.Report.{Reported}
+use Rattle.reset_play.specs.Results.{line_of}
+use Rattle.reset_play.specs.Thin.{thin}
 use Rattle.reset_play.specs.Spent.{Element, is_open, is_closed}
 use Rattle.reset_play.specs.Spent.Standing.{Closed}
-use Rattle.reset_play.specs.Whole.{held, is_held_open}
+use Rattle.reset_play.specs.Whole.{held, is_held_open, whole}
 use Rattle.reset_play.proofs.Lists.{NoneOpen, find_none, find_last, closed_more, closed_stays, closed}
 use Rattle.reset_play.proofs.OneUnit.{both_left, both_right}
 
@@ -113,3 +119,25 @@ built_same board files last asked list list' kept kept' batches opened steps lin
     ap (λ x. built board files last asked x kept batches opened steps lines unstaged removed pending) e
     ∙ (ap (λ x. built board files last asked list' x batches opened steps lines unstaged removed pending) k
     ∙ ap (λ x. built board files last asked list' kept' batches opened steps x unstaged removed pending) l)
+
+-- the open element of a platform, settled
+pub settled_whole : (board : BoardValue) (files : List File) (last : ℕ) (asked : Bool) (done : List Element) (e : Element) (kept : List ℕ) (batches : ℕ) (opened : Option ℕ) (steps : ℕ) (lines : List UnitLine) (unstaged removed : List ℕ) (pending : Option ℕ) (kind : Kind)
+    → IsTrue (list_all is_closed done) → IsTrue (is_open e)
+    → built board files last asked (done ++ closed e Sealed first_moment ∷ []) (kept_with kept e.key) (batches + 1) opened (steps + 1) (lines ++ line_of board kind (length done) (closed e Sealed first_moment) ∷ []) unstaged removed pending
+    ≡ whole thin (built board files last asked (done ++ e ∷ []) kept batches opened steps lines unstaged removed pending) (Settles kind Sealed)
+settled_whole board files last asked done e kept batches opened steps lines unstaged removed pending kind all h =
+    let found : find is_open (done ++ e ∷ []) ≡ Some e = found_held done e all h in
+    let open_ones : filter is_open (done ++ e ∷ []) ≡ e ∷ [] = opened_held done e all h in
+    let list : map (closed_with Sealed first_moment) (done ++ e ∷ []) ≡ done ++ closed e Sealed first_moment ∷ [] = settled_held Sealed first_moment done e all h in
+    let count : count_by is_closed (done ++ e ∷ []) ≡ length done = count_held done (Some e) all h in
+    let is : closed_with Sealed first_moment e ≡ closed e Sealed first_moment = closed_open Sealed first_moment e h in
+    let m : Machine = (built board files last asked (done ++ e ∷ []) kept batches opened steps lines unstaged removed pending).machine in
+    let r : Reported = (built board files last asked (done ++ e ∷ []) kept batches opened steps lines unstaged removed pending).report in
+    let build : Option Element → List Element → Progress = λ o es. record { machine = settled_with m Sealed o; left = []; report = with_lines r (map (λ x. next_line m kind (closed_with Sealed first_moment x)) es) } in
+    let told : line_of board kind (count_by is_closed (done ++ e ∷ [])) (closed_with Sealed first_moment e) ≡ line_of board kind (length done) (closed e Sealed first_moment) =
+        ap (λ k. line_of board kind k (closed_with Sealed first_moment e)) count ∙ ap (line_of board kind (length done)) is in
+    sym (
+      ap (λ o. build o (filter is_open (done ++ e ∷ []))) found
+      ∙ ap (build (Some e)) open_ones
+      ∙ built_same board files last asked _ _ _ _ (batches + 1) opened (steps + 1) _ _ unstaged removed pending list refl (ap (λ l. lines ++ l ∷ []) told)
+    )

@@ -8,7 +8,7 @@ use Rattle.reset_play.specs.Results.{line_of}
 use Rattle.reset_play.specs.Spent.{Element, is_open, is_closed}
 use Rattle.reset_play.specs.Whole.{held, is_held_open}
 use Rattle.reset_play.proofs.Lists.{closed}
-use Rattle.reset_play.proofs.Held.{some_held, count_held, held_none, rests_held, all_closed_more, built_same, opened_held, found_held, settled_held, closed_open}
+use Rattle.reset_play.proofs.Held.{some_held, count_held, held_none, rests_held, all_closed_more, built_same, opened_held, found_held, settled_held, closed_open, settled_whole}
 use Rattle.reset_play.proofs.thin_play.platform.Platform.settle.Goals as goal
 
 pub unreachable-requires : goal.unreachable-requires
@@ -26,7 +26,12 @@ returns-clause-ok c =
     let kept : c.keep.new.kept.items ≡ kept_with c.self.inside.kept.items c.in-Some.attempt.key = search rules in
     let line : c.in_ok-line.line ≡ line_of c.self.inside.board.now c.args.kind (length c.self.inside.done.items) (closed c.in-Some.attempt Sealed first_moment) = search rules in
     let lines : c.push.new.self.items ≡ c.args.report.now.lines.items ++ c.in_ok-line.line ∷ [] = search rules in
-    rw (← c.self.view_is, some) ?
+    let told : c.push.new.self.items ≡ c.args.report.now.lines.items ++ line_of c.self.inside.board.now c.args.kind (length c.self.inside.done.items) (closed c.in-Some.attempt Sealed first_moment) ∷ [] =
+        lines ∙ ap (λ l. c.args.report.now.lines.items ++ l ∷ []) line in
+    rw (← c.self.view_is, some) (
+      built_same c.self.inside.board.now c.self.inside.files.items c.self.inside.last_file c.self.inside.asked _ _ _ _ (c.self.inside.batches + 1) c.args.report.now.opened (c.args.report.now.steps + 1) _ _ c.args.report.now.unstaged.items c.args.report.now.removed.items c.args.report.now.pending (whole ∙ done') kept told
+      ∙ settled_whole c.self.inside.board.now c.self.inside.files.items c.self.inside.last_file c.self.inside.asked c.self.inside.done.items c.in-Some.attempt c.self.inside.kept.items c.self.inside.batches c.args.report.now.opened c.args.report.now.steps c.args.report.now.lines.items c.args.report.now.unstaged.items c.args.report.now.removed.items c.args.report.now.pending c.args.kind c.self.invariant.closed_before is_claimed
+    )
 
 pub returns-clause-rests : goal.returns-clause-rests
 returns-clause-rests c =
