@@ -1,0 +1,51 @@
+-- The parts of a boot on lists.
+use Rattle.std.proofs.Common.{◌≡◌, ℕ, ◌+◌, ◌<◌, List, [], ◌∷◌, ◌++◌, find, drop, get_or, length, refl, sym, ap, arith, nat_lt, flat_map, ◌∙◌, subst, Option, Some, None, append_assoc, Bool, drop-cons, add-one}
+use Rattle.reset_play.specs.declared.snapshot.StagedPair.{StagedPair}
+use Rattle.reset_play.specs.declared.unit.End.{End}
+use Rattle.reset_play.specs.declared.unit.End.TheVariants.{Refused, Sealed}
+use Rattle.reset_play.specs.declared.unit.Kind.TheVariants.{Try, Heal}
+use Rattle.reset_play.specs.Boots.{Work, Progress, after, after_unit, next, boot_of, boot_start, boot_work, work_with, staged_work, pair_work, folder_work, settled, settled_with, element_of, course_of_try, with_claim, with_element, with_lines, one_step, next_line}
+use Rattle.reset_play.specs.Boots.Work.{Settles, Does}
+use Rattle.reset_play.specs.Machine.{File, Machine}
+use Rattle.reset_play.specs.Order.{in_order}
+use Rattle.reset_play.specs.Report.{Reported}
+use Rattle.reset_play.specs.Spent.{Element, is_open}
+use Rattle.reset_play.specs.Spent.Standing.{Open, Closed}
+use Rattle.reset_play.specs.Thin.{thin}
+use Rattle.reset_play.specs.Verdicts.{refusal}
+use Rattle.reset_play.specs.Whole.{whole, finish, file_unit, heal_work, marked_work, marked_works}
+use Rattle.reset_play.proofs.Finishing.{progress, boot_finish, finish_append}
+
+no_staged : (n : Machine) → n.staged ≡ [] → staged_work thin n ≡ []
+no_staged n e = ap (λ (s : List StagedPair). flat_map (pair_work thin n) (in_order (λ a b. nat_lt a.serial b.serial) s)) e
+
+settled_staged : (m : Machine) (end : End) (o : Option Element) → (settled_with m end o).staged ≡ m.staged
+settled_staged m end None = refl
+settled_staged m end (Some e) = refl
+
+by_found : (m : Machine) → m.staged ≡ [] → (o : Option Element) → finish thin (progress m [] (boot_start thin m Sealed).report) (work_with thin m Sealed o) ≡ finish thin (finish thin (progress m [] (boot_start thin m Sealed).report) (heal_work o)) (folder_work thin (finish thin (progress m [] (boot_start thin m Sealed).report) (heal_work o)).machine)
+by_found m none None = ap (λ w. finish thin (progress m [] (boot_start thin m Sealed).report) (w ++ folder_work thin m)) (no_staged m none)
+by_found m none (Some e) =
+    ap (λ w. finish thin (whole thin (progress m [] (boot_start thin m Sealed).report) (Settles Heal Sealed)) (w ++ folder_work thin (settled m Sealed)))
+    (no_staged (settled m Sealed) (settled_staged m Sealed (find is_open m.list) ∙ none))
+
+-- a boot is what heals, and then the folder's work, where no delivery waits in memory
+pub boot_parts : (m : Machine) → m.staged ≡ [] → (b : Progress) → b ≡ finish thin (progress m [] (boot_start thin m Sealed).report) (heal_work (find is_open m.list)) → finish thin b (folder_work thin b.machine) ≡ boot_of thin m Sealed
+boot_parts m none b is = ap (λ p. finish thin p (folder_work thin p.machine)) is ∙ sym (by_found m none (find is_open m.list)) ∙ sym (boot_finish thin m Sealed)
+
+-- a refused unit of a file
+pub tried_refused : (m : Machine) (r : Reported) (x : File) (status : ℕ) → refusal thin m (file_unit x) ≡ Some status
+    → whole thin (progress m [] r) (Does (file_unit x)) ≡ progress (with_element m (element_of thin (file_unit x) (Closed (Some (Refused status)) m.now))) [] (with_lines r (next_line m Try (element_of thin (file_unit x) (Closed (Some (Refused status)) m.now)) ∷ []))
+tried_refused m r x status h = ap (λ o. next thin (after_unit thin (progress m (Does (file_unit x) ∷ []) r) (file_unit x) [] (course_of_try o))) h
+
+-- one that is claimed
+pub tried_claimed : (m : Machine) (r : Reported) (x : File) → refusal thin m (file_unit x) ≡ None
+    → whole thin (progress m [] r) (Does (file_unit x)) ≡ whole thin (progress (with_claim m (element_of thin (file_unit x) Open)) [] (one_step r)) (Settles Try Sealed)
+tried_claimed m r x h = ap (λ o. next thin (after_unit thin (progress m (Does (file_unit x) ∷ []) r) (file_unit x) [] (course_of_try o))) h
+
+-- the work on the files that are left, of which one is next
+pub marked_next : (xs : List File) (marks : List Bool) (i : ℕ) (x : File) (mark : Bool) → length marks ≡ length xs → i < length xs
+    → marked_works (drop i xs) (drop i marks) ≡ marked_work (get_or xs i x) (get_or marks i mark) ++ marked_works (drop (i + 1) xs) (drop (i + 1) marks)
+marked_next xs marks i x mark long h =
+    let lt : i < length marks = omega arith in
+    rw (drop-cons xs i x h, drop-cons marks i mark lt, add-one i) refl
