@@ -21,3 +21,5 @@ pub mod ScriptNames
 pub mod ScriptSpelled
 pub mod SpentLemmas
 pub mod TextLemmas
+pub mod ThinLemmas
+pub mod VerdictLemmas

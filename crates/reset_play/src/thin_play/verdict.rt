@@ -1,12 +1,13 @@
 //! Whether an image may be tried on the first device of a board.
 
-ghost use Rattle.std.specs.Prelude.{◌≡◌, nat_le};
+ghost use Rattle.std.specs.Prelude.{◌≡◌, nat_le, Some};
 ghost use Rattle.reset_play.specs.Deliveries.{BootUnit};
 ghost use Rattle.reset_play.specs.Machine.{Machine};
 ghost use Rattle.reset_play.specs.Thin.{thin};
-ghost use Rattle.reset_play.specs.Verdicts.{is_admitted, capacity_of, refusal};
+ghost use Rattle.reset_play.specs.ThinValues.{parts_of};
+ghost use Rattle.reset_play.specs.Verdicts.{is_admitted, capacity_of, refusal, refusal_with};
 
-use super::delivery::read_parts;
+use super::delivery::{PlainParts, read_parts};
 use super::spent::{SpentTry, first_device, floor_in_force};
 use bench_model::Board;
 use sha2::{Digest, Sha256};
@@ -38,15 +39,16 @@ fn has_room(board: &Board, size: usize) -> bool
     size <= first_device(board).capacity as usize
 }
 
-/// The status of the first check that an image fails on the first device, in the order of the checks of
-/// an attempt. None where it passes all.
-pub fn refusal(board: &Board, list: &[SpentTry<'_>], image: &[u8]) -> Option<u32>
+// The status of the first check that the parts of an image fail, in order.
+fn refusal_of_parts(
+    board: &Board,
+    list: &[SpentTry<'_>],
+    image: &[u8],
+    parts: &PlainParts<'_>,
+) -> Option<u32>
     ensures { (m : Machine) (u : BootUnit) → m.board ≡ board.now → m.list ≡ list.now →
-        u.image ≡ image.now → u.key.device ≡ 0 → u.head.support ≡ 0 → result ≡ refusal thin m u }
+        u.image ≡ image.now → u.key.device ≡ 0 → result ≡ refusal_with m u (Some (parts_of parts.now)) }
 {
-    let Some(parts) = read_parts(image) else {
-        return Some(INVALID_FORMAT);
-    };
     if !is_admitted(board, image) {
         return Some(AUTH_ERROR);
     }
@@ -57,4 +59,16 @@ pub fn refusal(board: &Board, list: &[SpentTry<'_>], image: &[u8]) -> Option<u32
         return Some(INCORRECT_VERSION);
     }
     None
+}
+
+/// The status of the first check that an image fails on the first device, in the order of the checks of
+/// an attempt. None where it passes all.
+pub fn refusal(board: &Board, list: &[SpentTry<'_>], image: &[u8]) -> Option<u32>
+    ensures { (m : Machine) (u : BootUnit) → m.board ≡ board.now → m.list ≡ list.now →
+        u.image ≡ image.now → u.key.device ≡ 0 → u.head.support ≡ 0 → result ≡ refusal thin m u }
+{
+    match read_parts(image) {
+        Some(parts) => refusal_of_parts(board, list, image, &parts),
+        None => Some(INVALID_FORMAT),
+    }
 }
