@@ -1,5 +1,5 @@
 -- The list of a platform: closed elements, and perhaps one that is open behind them.
-use Rattle.std.proofs.Common.{◌≡◌, ℕ, zero, suc, ◌+◌, ◌≤◌, ◌&&◌, Bool, true, false, cond, not, IsTrue, List, [], ◌∷◌, ◌++◌, map, filter, find, length, count_by, refl, sym, arith, ap, ◌∙◌, subst, Option, Some, None, IsSome, append-nil, append_assoc}
+use Rattle.std.proofs.Common.{◌≡◌, ℕ, zero, suc, ◌+◌, ◌≤◌, ◌&&◌, Bool, true, false, cond, not, IsTrue, List, [], ◌∷◌, ◌++◌, map, filter, find, length, count_by, refl, sym, arith, ap, ◌∙◌, subst, Option, Some, None, IsSome, is_some, append-nil, append_assoc}
 use Rattle.std.proofs.lemmas.List.Sums.{length-filter}
 use Rattle.std.specs.List.{list_all}
 use Rattle.bench_model.specs.Boards.{BoardValue}
@@ -141,3 +141,8 @@ settled_whole board files last asked done e kept batches opened steps lines unst
       ∙ ap (build (Some e)) open_ones
       ∙ built_same board files last asked _ _ _ _ (batches + 1) opened (steps + 1) _ _ unstaged removed pending list refl (ap (λ l. lines ++ l ∷ []) told)
     )
+
+-- what is held is found open
+pub held_pends : (xs : List Element) (o : Option Element) → IsTrue (list_all is_closed xs) → IsTrue (is_held_open o) → is_some o ≡ true → IsSome (find is_open (xs ++ held o))
+held_pends xs None all h some = cc
+held_pends xs (Some e) all h some = pends_held xs e all h

@@ -1,19 +1,22 @@
 -- The parts of a boot on lists.
-use Rattle.std.proofs.Common.{◌≡◌, ℕ, ◌+◌, ◌<◌, List, [], ◌∷◌, ◌++◌, find, drop, get_or, length, refl, sym, ap, arith, nat_lt, flat_map, ◌∙◌, subst, Option, Some, None, append_assoc, Bool, drop-cons, add-one}
+use Rattle.std.proofs.Common.{◌≡◌, ℕ, ◌+◌, ◌<◌, List, [], ◌∷◌, ◌++◌, find, drop, get_or, length, refl, sym, ap, arith, nat_lt, flat_map, ◌∙◌, subst, Option, Some, None, append_assoc, Bool, drop-cons, add-one, option_map, unwrap_or}
 use Rattle.reset_play.specs.declared.snapshot.StagedPair.{StagedPair}
 use Rattle.reset_play.specs.declared.unit.End.{End}
 use Rattle.reset_play.specs.declared.unit.End.TheVariants.{Refused, Sealed}
 use Rattle.reset_play.specs.declared.unit.Kind.TheVariants.{Try, Heal}
+use Rattle.reset_play.specs.declared.unit.UnitKey.{UnitKey}
 use Rattle.reset_play.specs.Boots.{Work, Progress, after, after_unit, next, boot_of, boot_start, boot_work, work_with, staged_work, pair_work, folder_work, settled, settled_with, element_of, course_of_try, with_claim, with_element, with_lines, one_step, next_line}
 use Rattle.reset_play.specs.Boots.Work.{Settles, Does}
+use Rattle.reset_play.specs.Deliveries.{fmp_guid}
+use Rattle.reset_play.specs.Formats.{Item}
 use Rattle.reset_play.specs.Machine.{File, Machine}
 use Rattle.reset_play.specs.Order.{in_order}
 use Rattle.reset_play.specs.Report.{Reported}
 use Rattle.reset_play.specs.Spent.{Element, is_open}
 use Rattle.reset_play.specs.Spent.Standing.{Open, Closed}
-use Rattle.reset_play.specs.Thin.{thin}
+use Rattle.reset_play.specs.Thin.{thin, thin_item, plain_parts}
 use Rattle.reset_play.specs.Verdicts.{refusal}
-use Rattle.reset_play.specs.Whole.{whole, finish, file_unit, heal_work, marked_work, marked_works}
+use Rattle.reset_play.specs.Whole.{whole, finish, file_key, file_unit, heal_work, marked_work, marked_works}
 use Rattle.reset_play.proofs.Finishing.{progress, boot_finish, finish_append}
 
 no_staged : (n : Machine) → n.staged ≡ [] → staged_work thin n ≡ []
@@ -34,14 +37,19 @@ pub boot_parts : (m : Machine) → m.staged ≡ [] → (b : Progress) → b ≡ 
 boot_parts m none b is = ap (λ p. finish thin p (folder_work thin p.machine)) is ∙ sym (by_found m none (find is_open m.list)) ∙ sym (boot_finish thin m Sealed)
 
 -- a refused unit of a file
-pub tried_refused : (m : Machine) (r : Reported) (x : File) (status : ℕ) → refusal thin m (file_unit x) ≡ Some status
-    → whole thin (progress m [] r) (Does (file_unit x)) ≡ progress (with_element m (element_of thin (file_unit x) (Closed (Some (Refused status)) m.now))) [] (with_lines r (next_line m Try (element_of thin (file_unit x) (Closed (Some (Refused status)) m.now)) ∷ []))
-tried_refused m r x status h = ap (λ o. next thin (after_unit thin (progress m (Does (file_unit x) ∷ []) r) (file_unit x) [] (course_of_try o))) h
+pub tried_refused : (m : Machine) (r : Reported) (x : File) (status : ℕ) (e : Element) → refusal thin m (file_unit x) ≡ Some status
+    → e ≡ element_of thin (file_unit x) (Closed (Some (Refused status)) m.now)
+    → progress (with_element m e) [] (with_lines r (next_line m Try e ∷ [])) ≡ whole thin (progress m [] r) (Does (file_unit x))
+tried_refused m r x status e h is =
+    ap (λ (p : Element). progress (with_element m p) [] (with_lines r (next_line m Try p ∷ []))) is
+    ∙ sym (ap (λ o. next thin (after_unit thin (progress m (Does (file_unit x) ∷ []) r) (file_unit x) [] (course_of_try o))) h)
 
 -- one that is claimed
-pub tried_claimed : (m : Machine) (r : Reported) (x : File) → refusal thin m (file_unit x) ≡ None
-    → whole thin (progress m [] r) (Does (file_unit x)) ≡ whole thin (progress (with_claim m (element_of thin (file_unit x) Open)) [] (one_step r)) (Settles Try Sealed)
-tried_claimed m r x h = ap (λ o. next thin (after_unit thin (progress m (Does (file_unit x) ∷ []) r) (file_unit x) [] (course_of_try o))) h
+pub tried_claimed : (m : Machine) (r : Reported) (x : File) (e : Element) → refusal thin m (file_unit x) ≡ None → e ≡ element_of thin (file_unit x) Open
+    → whole thin (progress (with_claim m e) [] (one_step r)) (Settles Try Sealed) ≡ whole thin (progress m [] r) (Does (file_unit x))
+tried_claimed m r x e h is =
+    ap (λ (p : Element). whole thin (progress (with_claim m p) [] (one_step r)) (Settles Try Sealed)) is
+    ∙ sym (ap (λ o. next thin (after_unit thin (progress m (Does (file_unit x) ∷ []) r) (file_unit x) [] (course_of_try o))) h)
 
 -- the work on the files that are left, of which one is next
 pub marked_next : (xs : List File) (marks : List Bool) (i : ℕ) (x : File) (mark : Bool) → length marks ≡ length xs → i < length xs
@@ -49,3 +57,17 @@ pub marked_next : (xs : List File) (marks : List Bool) (i : ℕ) (x : File) (mar
 marked_next xs marks i x mark long h =
     let lt : i < length marks = omega arith in
     rw (drop-cons xs i x h, drop-cons marks i mark lt, add-one i) refl
+
+-- the attempt of a file, by its parts
+abbrev attempt_built : UnitKey → Item → ℕ → ℕ → List ℕ → Element
+attempt_built key item version floor payload = record { kind = Try; key = key; capsule = fmp_guid; head = item.head; version = version; floor = floor; payload = payload; standing = Open }
+
+pub attempt_is : (x : File) (item : Item) (key : UnitKey) (version floor : ℕ) (payload : List ℕ) → item ≡ thin_item x.bytes → key ≡ file_key x
+    → version ≡ unwrap_or (option_map (λ p. p.version) (plain_parts item.image 0)) 0 → floor ≡ unwrap_or (option_map (λ p. p.lowest) (plain_parts item.image 0)) 0 → payload ≡ unwrap_or (option_map (λ p. p.payload) (plain_parts item.image 0)) []
+    → record { kind = Try; key = key; capsule = fmp_guid; head = item.head; version = version; floor = floor; payload = payload; standing = Open } ≡ element_of thin (file_unit x) Open
+attempt_is x item key version floor payload is k v l p =
+    ap (λ (n : UnitKey). attempt_built n item version floor payload) k
+    ∙ ap (λ (n : ℕ). attempt_built (file_key x) item n floor payload) v
+    ∙ ap (λ (n : ℕ). attempt_built (file_key x) item (unwrap_or (option_map (λ q. q.version) (plain_parts item.image 0)) 0) n payload) l
+    ∙ ap (λ (n : List ℕ). attempt_built (file_key x) item (unwrap_or (option_map (λ q. q.version) (plain_parts item.image 0)) 0) (unwrap_or (option_map (λ q. q.lowest) (plain_parts item.image 0)) 0) n) p
+    ∙ ap (λ (i : Item). attempt_built (file_key x) i (unwrap_or (option_map (λ q. q.version) (plain_parts i.image 0)) 0) (unwrap_or (option_map (λ q. q.lowest) (plain_parts i.image 0)) 0) (unwrap_or (option_map (λ q. q.payload) (plain_parts i.image 0)) [])) is
