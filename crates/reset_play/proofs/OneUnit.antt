@@ -1,5 +1,5 @@
 -- A thin file that has a target on a board of one device is one try of it.
-use Rattle.std.proofs.Common.{◌≡◌, ℕ, zero, suc, ◌+◌, ◌==◌, ◌&&◌, ◌||◌, Bool, true, false, cond, not, IsTrue, List, [], ◌∷◌, ◌++◌, map, flat_map, filter, drop, length, find, refl, sym, arith, ap, ◌∙◌, subst, Option, Some, None, option_and_then}
+use Rattle.std.proofs.Common.{◌≡◌, ℕ, zero, suc, ◌+◌, ◌<◌, get_or, ◌==◌, ◌&&◌, ◌||◌, Bool, true, false, cond, not, IsTrue, List, [], ◌∷◌, ◌++◌, map, flat_map, filter, drop, length, find, refl, sym, arith, ap, ◌∙◌, subst, Option, Some, None, option_and_then}
 use Rattle.std.proofs.Math.Seq.{drop-nil}
 use Rattle.std.proofs.lemmas.Bool.Decides.{nat_tests}
 use Rattle.std.specs.List.{list_any, list_all, enumerate_from}
@@ -99,3 +99,9 @@ inserted_length before x (y ∷ ys) =
 pub ordered_length : {X : Type 0} (before : X → X → Bool) (xs : List X) → length (in_order before xs) ≡ length xs
 ordered_length before [] = refl
 ordered_length before (x ∷ xs) = inserted_length before x (in_order before xs) ∙ ap suc (ordered_length before xs)
+
+-- what holds of all items holds of each
+pub all_at : {X : Type 0} (p : X → Bool) (xs : List X) (i : ℕ) (d : X) → i < length xs → IsTrue (list_all p xs) → IsTrue (p (get_or xs i d))
+all_at p [] i d h all = absurd (omega arith)
+all_at p (x ∷ xs) zero d h all = both_left (p x) _ all
+all_at p (x ∷ xs) (suc i) d h all = let lt : i < length xs = omega arith in all_at p xs i d lt (both_right (p x) _ all)

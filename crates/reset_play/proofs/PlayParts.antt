@@ -71,3 +71,15 @@ attempt_is x item key version floor payload is k v l p =
     ∙ ap (λ (n : ℕ). attempt_built (file_key x) item (unwrap_or (option_map (λ q. q.version) (plain_parts item.image 0)) 0) n payload) l
     ∙ ap (λ (n : List ℕ). attempt_built (file_key x) item (unwrap_or (option_map (λ q. q.version) (plain_parts item.image 0)) 0) (unwrap_or (option_map (λ q. q.lowest) (plain_parts item.image 0)) 0) n) p
     ∙ ap (λ (i : Item). attempt_built (file_key x) i (unwrap_or (option_map (λ q. q.version) (plain_parts i.image 0)) 0) (unwrap_or (option_map (λ q. q.lowest) (plain_parts i.image 0)) 0) (unwrap_or (option_map (λ q. q.payload) (plain_parts i.image 0)) [])) is
+
+-- one file of those that are left is done
+pub files_step : (xs : List File) (marks : List Bool) (i : ℕ) (x : File) (mark : Bool) (b done : Progress) → x ≡ get_or xs i x → length marks ≡ length xs → i < length xs
+    → done ≡ finish thin b (marked_work x (get_or marks i mark))
+    → finish thin done (marked_works (drop (i + 1) xs) (drop (i + 1) marks)) ≡ finish thin b (marked_works (drop i xs) (drop i marks))
+files_step xs marks i x mark b done is long h ok =
+    let rest : List Work = marked_works (drop (i + 1) xs) (drop (i + 1) marks) in
+    let all : marked_works (drop i xs) (drop i marks) ≡ marked_work (get_or xs i x) (get_or marks i mark) ++ rest = marked_next xs marks i x mark long h in
+    ap (λ (p : Progress). finish thin p rest) ok
+    ∙ ap (λ (y : File). finish thin (finish thin b (marked_work y (get_or marks i mark))) rest) is
+    ∙ sym (finish_append thin (marked_work (get_or xs i x) (get_or marks i mark)) rest b)
+    ∙ sym (ap (finish thin b) all)
