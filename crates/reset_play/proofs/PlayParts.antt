@@ -1,22 +1,26 @@
 -- The parts of a boot on lists.
-use Rattle.std.proofs.Common.{◌≡◌, ℕ, ◌+◌, ◌<◌, List, [], ◌∷◌, ◌++◌, find, drop, get_or, length, refl, sym, ap, arith, nat_lt, flat_map, ◌∙◌, subst, Option, Some, None, append_assoc, Bool, drop-cons, add-one, option_map, unwrap_or}
+use Rattle.std.proofs.Common.{◌≡◌, ℕ, ◌+◌, ◌<◌, List, [], ◌∷◌, ◌++◌, find, drop, get_or, length, refl, sym, ap, arith, nat_lt, flat_map, ◌∙◌, subst, Option, Some, None, append_assoc, Bool, drop-cons, add-one, option_map, unwrap_or, IsTrue, true, cond}
+use Rattle.std.specs.List.{list_all}
 use Rattle.reset_play.specs.declared.snapshot.StagedPair.{StagedPair}
 use Rattle.reset_play.specs.declared.unit.End.{End}
 use Rattle.reset_play.specs.declared.unit.End.TheVariants.{Refused, Sealed}
 use Rattle.reset_play.specs.declared.unit.Kind.TheVariants.{Try, Heal}
 use Rattle.reset_play.specs.declared.unit.UnitKey.{UnitKey}
-use Rattle.reset_play.specs.Boots.{Work, Progress, after, after_unit, next, boot_of, boot_start, boot_work, work_with, staged_work, pair_work, folder_work, settled, settled_with, element_of, course_of_try, with_claim, with_element, with_lines, one_step, next_line}
-use Rattle.reset_play.specs.Boots.Work.{Settles, Does}
+use Rattle.reset_play.specs.Boots.{Work, Progress, after, after_unit, next, boot_of, boot_start, boot_work, work_with, staged_work, pair_work, folder_work, file_work, files_in_order, prune_work, settled, settled_with, element_of, course_of_try, with_claim, with_element, with_lines, one_step, next_line}
+use Rattle.reset_play.specs.Boots.Work.{Settles, Does, Clears}
 use Rattle.reset_play.specs.Deliveries.{fmp_guid}
 use Rattle.reset_play.specs.Formats.{Item}
 use Rattle.reset_play.specs.Machine.{File, Machine}
+use Rattle.reset_play.specs.Names.{is_taken_before}
 use Rattle.reset_play.specs.Order.{in_order}
+use Rattle.reset_play.specs.Plays.{has_one_device, is_thin_on}
 use Rattle.reset_play.specs.Report.{Reported}
 use Rattle.reset_play.specs.Spent.{Element, is_open}
 use Rattle.reset_play.specs.Spent.Standing.{Open, Closed}
 use Rattle.reset_play.specs.Thin.{thin, thin_item, plain_parts}
 use Rattle.reset_play.specs.Verdicts.{refusal}
-use Rattle.reset_play.specs.Whole.{whole, finish, file_key, file_unit, heal_work, marked_work, marked_works}
+use Rattle.reset_play.specs.Whole.{whole, finish, file_key, file_unit, heal_work, marked_work, marked_works, marks_of}
+use Rattle.reset_play.proofs.OneUnit.{ordered_all, works_marked}
 use Rattle.reset_play.proofs.Finishing.{progress, boot_finish, finish_append}
 
 no_staged : (n : Machine) → n.staged ≡ [] → staged_work thin n ≡ []
@@ -83,3 +87,19 @@ files_step xs marks i x mark b done is long h ok =
     ∙ ap (λ (y : File). finish thin (finish thin b (marked_work y (get_or marks i mark))) rest) is
     ∙ sym (finish_append thin (marked_work (get_or xs i x) (get_or marks i mark)) rest b)
     ∙ sym (ap (finish thin b) all)
+
+-- the work on the folder, in its parts
+pub folder_parts : (m : Machine) (xs : List File) (marks : List Bool) (b0 b1 b2 b3 : Progress) → m.bit ≡ true → IsTrue (has_one_device m.board) → IsTrue (list_all (λ (x : File). is_thin_on m.board x.bytes) m.files)
+    → xs ≡ files_in_order m → marks ≡ marks_of m.list xs → b1 ≡ finish thin b0 (prune_work m) → b2 ≡ finish thin b1 (marked_works xs marks) → b3 ≡ whole thin b2 Clears → b3 ≡ finish thin b0 (folder_work thin m)
+folder_parts m xs marks b0 b1 b2 b3 asked one all is marked pruned done cleared =
+    let files : List Work = flat_map (file_work thin m) (files_in_order m) in
+    let all_in_order : IsTrue (list_all (λ (x : File). is_thin_on m.board x.bytes) (files_in_order m)) = ordered_all (λ (x : File). is_thin_on m.board x.bytes) (λ a b. is_taken_before a.name b.name) m.files all in
+    let works : files ≡ marked_works xs marks =
+        works_marked m (files_in_order m) one all_in_order
+        ∙ ap (λ (ys : List File). marked_works ys (marks_of m.list ys)) (sym is)
+        ∙ ap (marked_works xs) (sym marked) in
+    let folder : folder_work thin m ≡ (prune_work m ++ files) ++ Clears ∷ [] = ap (λ t. cond t ((prune_work m ++ files) ++ Clears ∷ []) []) asked in
+    cleared
+    ∙ ap (λ (p : Progress). whole thin p Clears) (done ∙ ap (λ (p : Progress). finish thin p (marked_works xs marks)) pruned ∙ ap (finish thin (finish thin b0 (prune_work m))) (sym works) ∙ sym (finish_append thin (prune_work m) files b0))
+    ∙ sym (finish_append thin (prune_work m ++ files) (Clears ∷ []) b0)
+    ∙ ap (finish thin b0) (sym folder)
