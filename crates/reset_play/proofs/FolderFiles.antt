@@ -1,6 +1,7 @@
 -- A platform of which files are taken out, or put in, is one still.
-use Rattle.std.proofs.Common.{◌≡◌, ℕ, zero, suc, ◌+◌, ◌≤◌, ◌<◌, ◌&&◌, ◌||◌, Bool, true, false, cond, not, IsTrue, List, [], ◌∷◌, ◌++◌, filter, length, refl, sym, arith, ap, ◌∙◌, subst, Option}
+use Rattle.std.proofs.Common.{◌≡◌, ℕ, zero, suc, ◌+◌, ◌≤◌, ◌<◌, ◌&&◌, ◌||◌, Bool, true, false, cond, not, IsTrue, List, [], ◌∷◌, ◌++◌, filter, length, nat_le, refl, sym, arith, ap, ◌∙◌, subst, Option}
 use Rattle.std.proofs.lemmas.List.Sums.{length-filter, count_by-le-length}
+use Rattle.std.proofs.lemmas.Bool.Decides.{nat_tests}
 use Rattle.std.specs.List.{list_any, list_all}
 use Rattle.bench_model.specs.Boards.{BoardValue}
 use Rattle.reset_play.specs.declared.limits.TheConstants.{MAX_FILES}
@@ -87,3 +88,15 @@ one_file_more board gone files file done claimed p on room =
         let is : length (filter (λ x. not (gone x)) files ++ file ∷ []) ≡ length (filter (λ x. not (gone x)) files) + 1 = more in
         let less : length (filter (λ x. not (gone x)) files) ≤ length files = short in
         omega arith
+
+above : (a n : ℕ) → nat_le a n ≡ false → n < a
+above a n h = grind (arith, nat_tests)
+
+no_room : (a b c : Bool) → (a && not b || c) ≡ false → b ≡ false → a ≡ false
+no_room true true c h e = cc
+no_room true false c h e = cc
+no_room false b c h e = refl
+
+-- a folder that is not full has room for a new name
+pub room_left : (files : List File) (known last : Bool) → (nat_le MAX_FILES (length files) && not known || last) ≡ false → known ≡ false → length files < MAX_FILES
+room_left files known last h e = above MAX_FILES (length files) (no_room (nat_le MAX_FILES (length files)) known last h e)

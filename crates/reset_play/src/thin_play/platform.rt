@@ -4,9 +4,9 @@ mod boot;
 mod folder_work;
 mod steps;
 
-ghost use Rattle.std.specs.Prelude.{◌≡◌, ◌≤◌, ◌+◌, ◌++◌, ◌∷◌, [], ◌^◌, IsTrue, not, filter, IfOk, OnOk, OnErr};
+ghost use Rattle.std.specs.Prelude.{◌≡◌, ◌≤◌, ◌+◌, ◌++◌, ◌∷◌, [], ◌^◌, ◌<◌, ◌-◌, false, IsTrue, not, filter, IfOk, OnOk, OnErr};
 ghost use Rattle.reset_play.specs.Events.Act.{Drop, Signal};
-ghost use Rattle.reset_play.specs.Events.{outcome, plain};
+ghost use Rattle.reset_play.specs.Events.{outcome, plain, is_folder_full};
 ghost use Rattle.reset_play.specs.Machine.{fresh};
 ghost use Rattle.reset_play.specs.Names.{is_same_name};
 ghost use Rattle.reset_play.specs.Plays.{has_one_device, is_thin_on};
@@ -66,6 +66,16 @@ impl<'a> Platform<'a> {
         }
     }
 
+    // Whether the folder takes no file of a name.
+    fn is_full(&self, name: &Text) -> bool
+        ensures value { result ≡ is_folder_full self.now name.now }
+        ensures serial { result ≡ false → self.now.last_file < 2 ^ 64 - 1 }
+    {
+        let is_known = has_file(&self.files, name.as_str());
+        let is_crowded = self.files.len() >= MAX_FILES;
+        is_crowded && !is_known || self.last_file == u64::MAX
+    }
+
     /// Puts a thin file that has a target into the folder.
     pub fn drop_file(
         &mut self,
@@ -78,8 +88,7 @@ impl<'a> Platform<'a> {
         ensures board { self.new.board ≡ self.old.board }
         ensures batches { self.new.batches ≡ self.old.batches }
     {
-        let is_known = has_file(&self.files, name.as_str());
-        if self.files.len() >= MAX_FILES && !is_known || self.last_file == u64::MAX {
+        if self.is_full(name) {
             return Ok(plain_entry(Answer::Full));
         }
         let file = StoredFile {
