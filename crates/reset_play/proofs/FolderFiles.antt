@@ -5,9 +5,11 @@ use Rattle.std.proofs.lemmas.Bool.Decides.{nat_tests}
 use Rattle.std.specs.List.{list_any, list_all}
 use Rattle.bench_model.specs.Boards.{BoardValue}
 use Rattle.reset_play.specs.declared.limits.TheConstants.{MAX_FILES}
-use Rattle.reset_play.specs.Machine.{File}
+use Rattle.reset_play.specs.Events.{Outcome}
+use Rattle.reset_play.specs.Machine.{File, first_moment}
 use Rattle.reset_play.specs.Plays.{is_thin_on}
 use Rattle.reset_play.specs.Spent.{Element}
+use Rattle.reset_play.specs.Told.{Said}
 use Rattle.reset_play.specs.Whole.{IsPlatform}
 use Rattle.reset_play.proofs.OneUnit.{both_left, both_right}
 
@@ -100,3 +102,29 @@ no_room false b c h e = refl
 -- a folder that is not full has room for a new name
 pub room_left : (files : List File) (known last : Bool) → (nat_le MAX_FILES (length files) && not known || last) ≡ false → known ≡ false → length files < MAX_FILES
 room_left files known last h e = above MAX_FILES (length files) (no_room (nat_le MAX_FILES (length files)) known last h e)
+
+-- an outcome of a platform, by its parts
+abbrev pub outcome_of : Said → BoardValue → List File → ℕ → Bool → List Element → List ℕ → ℕ → Outcome
+outcome_of said board files last asked list kept batches =
+    (
+      said,
+      record {
+        board = board;
+        now = first_moment;
+        files = files;
+        last_file = last;
+        memory = [];
+        staged = [];
+        last_staged = 0;
+        bit = asked;
+        list = list;
+        kept = kept;
+        batches = batches;
+        failed = false;
+      },
+    )
+
+pub dropped_same : (said said' : Said) (board : BoardValue) (files files' : List File) (last : ℕ) (asked : Bool) (list : List Element) (kept : List ℕ) (batches : ℕ) → said ≡ said' → files ≡ files'
+    → outcome_of said board files last asked list kept batches ≡ outcome_of said' board files' last asked list kept batches
+dropped_same said said' board files files' last asked list kept batches s f =
+    ap (λ x. outcome_of x board files last asked list kept batches) s ∙ ap (λ x. outcome_of said' board x last asked list kept batches) f
