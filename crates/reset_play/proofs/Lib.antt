@@ -13,6 +13,7 @@ pub mod Lists
 pub mod Once
 pub mod OneUnit
 pub mod Ordered
+pub mod PlayEvents
 pub mod PlayParts
 pub mod Reached
 pub mod SampleTexts
