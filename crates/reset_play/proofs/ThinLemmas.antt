@@ -1,5 +1,5 @@
 -- Thin deliveries.
-use Rattle.std.proofs.Common.{◌≡◌, ℕ, ◌+◌, ◌*◌, ◌≤◌, ◌<◌, ◌==◌, ◌&&◌, nat_le, if◌then◌else◌, Option, Some, None, unwrap_or, Bool, true, false, List, length, take, drop, get_or, drop-cons, suc, refl, ap, ◌∙◌, sym, arith}
+use Rattle.std.proofs.Common.{◌≡◌, ℕ, ◌+◌, ◌*◌, ◌≤◌, ◌<◌, ◌==◌, ◌&&◌, nat_le, if◌then◌else◌, Option, Some, None, unwrap_or, Bool, true, false, List, length, take, get_or, drop-cons, refl, ap, ◌∙◌, sym, arith}
 use Rattle.cu_base.specs.declared.guid.Guid.{Guid}
 use Rattle.cu_base.specs.Fields.{field, number_at, number}
 use Rattle.std.specs.List.{list_any}

@@ -24,22 +24,30 @@ pub const PAYLOAD_SIGNATURE: [u8; 4] = *b"MSS1";
 /// What a thin delivery says.
 #[derive(Clone, Copy)]
 pub struct ThinItem<'a> {
+    /// UpdateImageTypeId.
     pub type_id: Guid,
+    /// UpdateImageIndex.
     pub index: u8,
+    /// UpdateHardwareInstance.
     pub instance: u64,
+    /// The update image.
     pub image: &'a [u8],
 }
 
 /// The parts of an update image of support 0.
 #[derive(Clone, Copy)]
 pub struct PlainParts<'a> {
+    /// FwVersion of the payload header.
     pub version: u32,
+    /// LowestSupportedVersion of the payload header.
     pub lowest: u32,
+    /// What stands behind the payload header.
     pub payload: &'a [u8],
 }
 
+// Whether GUID, HeaderSize and CapsuleImageSize of the capsule header are those of a thin delivery.
 fn has_thin_header(bytes: &[u8]) -> bool
-    requires { 92 ≤ length bytes.now }
+    requires { THIN_HEADER_BYTES ≤ length bytes.now }
     ensures { result ≡ has_thin_header bytes.now }
 {
     guid_at(bytes, 0).bytes == FMP_CAPSULE_GUID.bytes
@@ -47,8 +55,9 @@ fn has_thin_header(bytes: &[u8]) -> bool
         && u32_at(bytes, 24) as usize == bytes.len()
 }
 
+// Whether the FMP header has version 1, no driver and one item, which stands right behind its offset.
 fn has_thin_body(bytes: &[u8]) -> bool
-    requires { 92 ≤ length bytes.now }
+    requires { THIN_HEADER_BYTES ≤ length bytes.now }
     ensures { result ≡ has_thin_body bytes.now }
 {
     u32_at(bytes, 28) == 1
@@ -57,8 +66,9 @@ fn has_thin_body(bytes: &[u8]) -> bool
         && u64_at(bytes, 36) == 16
 }
 
+// Whether the image header has version 3 and support 0, and image and vendor code end with the bytes.
 fn has_thin_image(bytes: &[u8]) -> bool
-    requires { 92 ≤ length bytes.now }
+    requires { THIN_HEADER_BYTES ≤ length bytes.now }
     ensures { result ≡ has_thin_image bytes.now }
 {
     u32_at(bytes, 44) == 3
@@ -111,12 +121,14 @@ pub fn is_thin_on(board: &Board, bytes: &[u8]) -> bool
     }
 }
 
+// Whether the item has a target among the devices.
 fn has_target(item: &ThinItem<'_>, devices: &[Device]) -> bool
     ensures { result ≡ list_any (is_target (item_of item.now).head) devices.now }
 {
     devices.iter().any(|device| is_target(item, device))
 }
 
+// Whether the payload header of the image is refused.
 fn is_refused(image: &[u8]) -> bool
     ensures { result ≡ is_refused image.now }
 {

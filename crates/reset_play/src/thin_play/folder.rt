@@ -1,6 +1,6 @@
 //! The update folder of a play on lists.
 
-ghost use Rattle.std.specs.Prelude.{◌≡◌, ◌≤◌, length, IfOk, OnOk, position};
+ghost use Rattle.std.specs.Prelude.{◌≡◌, ◌≤◌, length, IfOk, OnOk, OnErr, position};
 ghost use Rattle.std.specs.List.{list_any, position_or_len};
 ghost use Rattle.reset_play.specs.Boots.{is_file};
 ghost use Rattle.reset_play.specs.Names.{is_same_name, is_taken_before};
@@ -92,9 +92,7 @@ pub fn position_of(files: &[StoredFile<'_>], name: &str) -> Option<usize>
 pub fn has_file(files: &[StoredFile<'_>], name: &str) -> bool
     ensures { result ≡ list_any (λ x. is_same_name x.name name.now) files.now }
 {
-    files
-        .iter()
-        .any(|file| is_same_name(file.name(), name))
+    files.iter().any(|file| is_same_name(file.name(), name))
 }
 
 /// Whether a file has this serial.
@@ -138,11 +136,9 @@ fn place_of(files: &[StoredFile<'_>], name: &str) -> usize
 }
 
 // Puts a file before the first that is taken after it.
-fn put_in_order<'a>(
-    ordered: &mut Vec<StoredFile<'a>>,
-    file: StoredFile<'a>,
-) -> Result<(), NoMemory>
-    ensures { OnOk result (ordered.new.items ≡ inserted (λ a b. is_taken_before a.name b.name) file.entry ordered.old.items) }
+fn put_in_order<'a>(ordered: &mut Vec<StoredFile<'a>>, file: StoredFile<'a>) -> Result<(), NoMemory>
+    ensures ok { OnOk result (ordered.new.items ≡ inserted (λ a b. is_taken_before a.name b.name) file.entry ordered.old.items) }
+    ensures err { OnErr result (ordered.new.items ≡ ordered.old.items) }
 {
     let place = place_of(ordered, file.name());
     if ordered.insert(place, file).is_err() {

@@ -12,7 +12,9 @@ use std::marker::Model;
 /// Whether an attempt is open, or how it ended.
 #[derive(Clone, Copy, Debug, PartialEq, Eq)]
 pub enum Standing {
+    /// It was claimed and is not settled.
     Open,
+    /// It was settled.
     Closed(End),
 }
 
@@ -20,11 +22,17 @@ pub enum Standing {
 #[derive(Drop)]
 pub struct SpentTry<'a> {
     pub key: UnitKey,
+    /// UpdateImageTypeId of the item.
     pub type_id: Guid,
+    /// UpdateImageIndex of the item.
     pub index: u8,
+    /// UpdateHardwareInstance of the item.
     pub instance: u64,
+    /// The version of its image, 0 where the image is refused.
     pub version: u32,
+    /// The lowest supported version of its image, 0 where the image is refused.
     pub floor: u32,
+    /// The payload of its image, empty where the image is refused.
     pub payload: &'a [u8],
     pub standing: Standing,
 }

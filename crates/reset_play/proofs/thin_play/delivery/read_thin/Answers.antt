@@ -1,5 +1,5 @@
-use Rattle.std.proofs.Common.{rules, ◌≡◌, ◌≤◌, ◌<◌, ◌∙◌, sym, ap, ◌+◌, ◌-◌, length, arith, true, take, drop, Some}
-use Rattle.cu_base.specs.Fields.{field, number_at}
+use Rattle.std.proofs.Common.{rules, ◌≡◌, ap, ◌+◌, ◌-◌, arith, true, take, drop, Some}
+use Rattle.cu_base.specs.Fields.{number_at}
 use Rattle.reset_play.specs.Thin.{is_thin}
 use Rattle.reset_play.proofs.ThinLemmas.{image_end, one_byte, item_read}
 use Rattle.reset_play.proofs.thin_play.delivery.read_thin.Goals as goal
@@ -10,7 +10,7 @@ slice_bounds-result-end c =
     omega (arith, image_end c.args.bytes.now thin, c.u32_at-size.ensures)
 
 pub returns : goal.returns
-returns c = 
+returns c =
     let thin : is_thin c.args.bytes.now ≡ true = search rules in
     let end = image_end c.args.bytes.now thin in
     let size : 92 + c.u32_at-size.result - 92 ≡ number_at c.args.bytes.now 68 4 = omega (arith, c.u32_at-size.ensures) in
