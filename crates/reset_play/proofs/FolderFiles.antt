@@ -17,7 +17,7 @@ filter_short : {X : Type 0} (keep : X → Bool) (xs : List X) → length (filter
 filter_short keep [] = omega arith
 filter_short keep (x ∷ xs) =
     let h : length (filter keep xs) ≤ length xs = filter_short keep xs in
-    elim (keep x) as (λ b. length (cond b (x ∷ filter keep xs) (filter keep xs)) ≤ suc (length xs)) [ | true ↦ omega arith | false ↦ omega arith ]
+    elim (keep x) as (λ b. length (cond b (x ∷ filter keep xs) (filter keep xs)) ≤ suc (length xs)) [ true ↦ omega arith | false ↦ omega arith ]
 
 filter_all : {X : Type 0} (p keep : X → Bool) (xs : List X) → IsTrue (list_all p xs) → IsTrue (list_all p (filter keep xs))
 filter_all p keep [] all = refl
@@ -105,24 +105,23 @@ room_left files known last h e = above MAX_FILES (length files) (no_room (nat_le
 
 -- an outcome of a platform, by its parts
 abbrev pub outcome_of : Said → BoardValue → List File → ℕ → Bool → List Element → List ℕ → ℕ → Outcome
-outcome_of said board files last asked list kept batches =
-    (
-      said,
-      record {
-        board = board;
-        now = first_moment;
-        files = files;
-        last_file = last;
-        memory = [];
-        staged = [];
-        last_staged = 0;
-        bit = asked;
-        list = list;
-        kept = kept;
-        batches = batches;
-        failed = false;
-      },
-    )
+outcome_of said board files last asked list kept batches = (
+  said,
+  record {
+    board = board;
+    now = first_moment;
+    files = files;
+    last_file = last;
+    memory = [];
+    staged = [];
+    last_staged = 0;
+    bit = asked;
+    list = list;
+    kept = kept;
+    batches = batches;
+    failed = false;
+  },
+)
 
 pub dropped_same : (said said' : Said) (board : BoardValue) (files files' : List File) (last : ℕ) (asked : Bool) (list : List Element) (kept : List ℕ) (batches : ℕ) → said ≡ said' → files ≡ files'
     → outcome_of said board files last asked list kept batches ≡ outcome_of said' board files' last asked list kept batches

@@ -135,11 +135,11 @@ settled_whole board files last asked done e kept batches opened steps lines unst
     let r : Reported = (built board files last asked (done ++ e ∷ []) kept batches opened steps lines unstaged removed pending).report in
     let build : Option Element → List Element → Progress = λ o es. record { machine = settled_with m Sealed o; left = []; report = with_lines r (map (λ x. next_line m kind (closed_with Sealed first_moment x)) es) } in
     let told : line_of board kind (count_by is_closed (done ++ e ∷ [])) (closed_with Sealed first_moment e) ≡ line_of board kind (length done) (closed e Sealed first_moment) =
-        ap (λ k. line_of board kind k (closed_with Sealed first_moment e)) count ∙ ap (line_of board kind (length done)) is in
+    ap (λ k. line_of board kind k (closed_with Sealed first_moment e)) count ∙ ap (line_of board kind (length done)) is in
     sym (
-      ap (λ o. build o (filter is_open (done ++ e ∷ []))) found
-      ∙ ap (build (Some e)) open_ones
-      ∙ built_same board files last asked _ _ _ _ (batches + 1) opened (steps + 1) _ _ unstaged removed pending list refl (ap (λ l. lines ++ l ∷ []) told)
+    ap (λ o. build o (filter is_open (done ++ e ∷ []))) found
+    ∙ ap (build (Some e)) open_ones
+    ∙ built_same board files last asked _ _ _ _ (batches + 1) opened (steps + 1) _ _ unstaged removed pending list refl (ap (λ l. lines ++ l ∷ []) told)
     )
 
 -- what is held is found open

@@ -95,9 +95,9 @@ folder_parts m xs marks b0 b1 b2 b3 asked one all is marked pruned done cleared 
     let files : List Work = flat_map (file_work thin m) (files_in_order m) in
     let all_in_order : IsTrue (list_all (λ (x : File). is_thin_on m.board x.bytes) (files_in_order m)) = ordered_all (λ (x : File). is_thin_on m.board x.bytes) (λ a b. is_taken_before a.name b.name) m.files all in
     let works : files ≡ marked_works xs marks =
-        works_marked m (files_in_order m) one all_in_order
-        ∙ ap (λ (ys : List File). marked_works ys (marks_of m.list ys)) (sym is)
-        ∙ ap (marked_works xs) (sym marked) in
+    works_marked m (files_in_order m) one all_in_order
+    ∙ ap (λ (ys : List File). marked_works ys (marks_of m.list ys)) (sym is)
+    ∙ ap (marked_works xs) (sym marked) in
     let folder : folder_work thin m ≡ (prune_work m ++ files) ++ Clears ∷ [] = ap (λ t. cond t ((prune_work m ++ files) ++ Clears ∷ []) []) asked in
     cleared
     ∙ ap (λ (p : Progress). whole thin p Clears) (done ∙ ap (λ (p : Progress). finish thin p (marked_works xs marks)) pruned ∙ ap (finish thin (finish thin b0 (prune_work m))) (sym works) ∙ sym (finish_append thin (prune_work m) files b0))

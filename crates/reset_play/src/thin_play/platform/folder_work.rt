@@ -175,11 +175,7 @@ impl<'a> Platform<'a> {
     }
 
     // The folder is taken, where that was asked for.
-    pub(super) fn take_folder(
-        &mut self,
-        alloc: Global,
-        report: &mut Report,
-    ) -> Result<(), NoMemory>
+    pub(super) fn take_folder(&mut self, alloc: Global, report: &mut Report) -> Result<(), NoMemory>
         requires rests { find is_open self.old.list ≡ None }
         requires batches { self.old.batches ≤ 2 ^ 60 }
         requires steps { report.old.steps ≤ 2 ^ 28 }

@@ -12,8 +12,8 @@ pub loop-event-preserved : goal.loop-event-preserved
 loop-event-preserved c =
     let told : List Said = trace_of thin c.args.platform.now (acts_of c.args.loaded.now.items c.args.events.now) in
     let rest : said_of c.in_ok-entry.entry ∷ trace_of thin c.answer_of.new.platform (acts_of c.args.loaded.now.items (drop (c.loop-event.event-index + 1) c.args.events.now)) ≡ drop c.loop-event.event-index told =
-        told_next c.args.loaded.now.items c.args.events.now c.loop-event.event-index c.event-item.result c.loop-event.platform c.answer_of.new.platform (said_of c.in_ok-entry.entry) c.event-item.is c.loop-event-test.true c.in_ok-entry.ensures.ok
-        ∙ c.loop-event.invariant.rest in
+    told_next c.args.loaded.now.items c.args.events.now c.loop-event.event-index c.event-item.result c.loop-event.platform c.answer_of.new.platform (said_of c.in_ok-entry.entry) c.event-item.is c.loop-event-test.true c.in_ok-entry.ensures.ok
+    ∙ c.loop-event.invariant.rest in
     let pushed : length c.push.new.self.items ≡ length c.loop-event.trace.items + 1 = ap length c.in_ok-push.ensures.ok ∙ length_more c.loop-event.trace.items c.in_ok-entry.entry in
     record {
       said =
@@ -36,5 +36,5 @@ returns-clause-ok c =
     let told : List Said = trace_of thin c.args.platform.now (acts_of c.args.loaded.now.items c.args.events.now) in
     let none : drop c.loop-event.event-index c.args.events.now ≡ [] = none_behind c.args.events.now c.loop-event.event-index c.loop-event-test.false in
     let rest : [] ≡ drop c.loop-event.event-index told =
-        sym (ap (λ (es : List Event). trace_of thin c.loop-event.platform (acts_of c.args.loaded.now.items es)) none) ∙ c.loop-event.invariant.rest in
+    sym (ap (λ (es : List Event). trace_of thin c.loop-event.platform (acts_of c.args.loaded.now.items es)) none) ∙ c.loop-event.invariant.rest in
     c.loop-event.invariant.said ∙ ap (λ (l : List Said). map said_of c.args.trace.now.items ++ l) (taken_whole told c.loop-event.event-index rest)

@@ -21,7 +21,7 @@ returns-clause-ok c =
     let line : c.in_ok-line.line ≡ line_of c.self.inside.board.now Try (length c.self.inside.done.items) c.args.attempt = search rules in
     let lines : c.push.new.self.items ≡ c.args.report.now.lines.items ++ c.in_ok-line.line ∷ [] = search rules in
     let told : c.push.new.self.items ≡ c.args.report.now.lines.items ++ line_of c.self.inside.board.now Try (count_by is_closed (c.self.inside.done.items ++ held c.self.inside.claimed)) c.args.attempt ∷ [] =
-        lines ∙ ap (λ l. c.args.report.now.lines.items ++ l ∷ []) (line ∙ ap (λ k. line_of c.self.inside.board.now Try k c.args.attempt) (sym count)) in
+    lines ∙ ap (λ l. c.args.report.now.lines.items ++ l ∷ []) (line ∙ ap (λ k. line_of c.self.inside.board.now Try k c.args.attempt) (sym count)) in
     rw (← c.self.view_is) (built_same c.self.inside.board.now c.self.inside.files.items c.self.inside.last_file c.self.inside.asked _ _ _ _ (c.self.inside.batches + 1) c.args.report.now.opened (c.args.report.now.steps + 1) _ _ c.args.report.now.unstaged.items c.args.report.now.removed.items c.args.report.now.pending list kept told)
 
 pub returns-clause-rests : goal.returns-clause-rests

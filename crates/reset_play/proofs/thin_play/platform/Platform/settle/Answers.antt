@@ -27,10 +27,10 @@ returns-clause-ok c =
     let line : c.in_ok-line.line ≡ line_of c.self.inside.board.now c.args.kind (length c.self.inside.done.items) (closed c.in-Some.attempt Sealed first_moment) = search rules in
     let lines : c.push.new.self.items ≡ c.args.report.now.lines.items ++ c.in_ok-line.line ∷ [] = search rules in
     let told : c.push.new.self.items ≡ c.args.report.now.lines.items ++ line_of c.self.inside.board.now c.args.kind (length c.self.inside.done.items) (closed c.in-Some.attempt Sealed first_moment) ∷ [] =
-        lines ∙ ap (λ l. c.args.report.now.lines.items ++ l ∷ []) line in
+    lines ∙ ap (λ l. c.args.report.now.lines.items ++ l ∷ []) line in
     rw (← c.self.view_is, some) (
-      built_same c.self.inside.board.now c.self.inside.files.items c.self.inside.last_file c.self.inside.asked _ _ _ _ (c.self.inside.batches + 1) c.args.report.now.opened (c.args.report.now.steps + 1) _ _ c.args.report.now.unstaged.items c.args.report.now.removed.items c.args.report.now.pending (whole ∙ done') kept told
-      ∙ settled_whole c.self.inside.board.now c.self.inside.files.items c.self.inside.last_file c.self.inside.asked c.self.inside.done.items c.in-Some.attempt c.self.inside.kept.items c.self.inside.batches c.args.report.now.opened c.args.report.now.steps c.args.report.now.lines.items c.args.report.now.unstaged.items c.args.report.now.removed.items c.args.report.now.pending c.args.kind c.self.invariant.closed_before is_claimed
+    built_same c.self.inside.board.now c.self.inside.files.items c.self.inside.last_file c.self.inside.asked _ _ _ _ (c.self.inside.batches + 1) c.args.report.now.opened (c.args.report.now.steps + 1) _ _ c.args.report.now.unstaged.items c.args.report.now.removed.items c.args.report.now.pending (whole ∙ done') kept told
+    ∙ settled_whole c.self.inside.board.now c.self.inside.files.items c.self.inside.last_file c.self.inside.asked c.self.inside.done.items c.in-Some.attempt c.self.inside.kept.items c.self.inside.batches c.args.report.now.opened c.args.report.now.steps c.args.report.now.lines.items c.args.report.now.unstaged.items c.args.report.now.removed.items c.args.report.now.pending c.args.kind c.self.invariant.closed_before is_claimed
     )
 
 pub returns-clause-rests : goal.returns-clause-rests

@@ -43,6 +43,6 @@ returns-clause-ok c =
     let none : c.self.inside.claimed ≡ None = none_held c.self.inside.done.items c.self.inside.claimed c.self.invariant.closed_before c.self.invariant.open_last rests in
     let list : c.as_slice.result.now ≡ c.args.self.now.list = c.as_slice.ensures ∙ sym (held_none c.self.inside.done.items c.self.inside.claimed none) ∙ ap (λ (m : Machine). m.list) c.self.view_is in
     let marked : c.as_slice-2.result.now ≡ marks_of c.args.self.now.list c.deref-3.result.now =
-        c.as_slice-2.ensures ∙ c.in_ok-marks.ensures ∙ ap (λ (l : List Element). marks_of l c.deref-2.result.now) list ∙ ap (marks_of c.args.self.now.list) (c.deref-2.ensures.value ∙ sym c.deref-3.ensures.value) in
+    c.as_slice-2.ensures ∙ c.in_ok-marks.ensures ∙ ap (λ (l : List Element). marks_of l c.deref-2.result.now) list ∙ ap (marks_of c.args.self.now.list) (c.deref-2.ensures.value ∙ sym c.deref-3.ensures.value) in
     folder_parts c.args.self.now c.deref-3.result.now c.as_slice-2.result.now (at c.args.self.now c.args.report.now) (at c.prune.new.self c.prune.new.report) (at c.do_files.new.self c.do_files.new.report) (at c.clear.new.self c.clear.new.report)
     bit one all is marked c.in_ok-prune.ensures.ok c.in_ok-do_files.ensures.ok c.clear.ensures.value

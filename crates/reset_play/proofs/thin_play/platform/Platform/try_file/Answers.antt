@@ -31,12 +31,12 @@ returns-in_ok-close-in-Some-clause-ok c =
     let board : c.args.self.now.board ≡ c.self.inside.board.now = ap (λ (m : Machine). m.board) (sym c.self.view_is) in
     let image : (file_unit c.args.file.now).image ≡ c.item_in-item.result.image.now = ap (λ (x : File). (thin_item x.bytes).image) (sym c.file.view_is) ∙ sym (ap (λ (i : Item). i.image) c.item_in-item.ensures) in
     let is : refusal thin c.args.self.now (file_unit c.args.file.now) ≡ Some c.in-Some.status =
-        sym (c.refusal.ensures c.args.self.now (file_unit c.args.file.now) board list image refl refl) ∙ c.in-Some.is in
+    sym (c.refusal.ensures c.args.self.now (file_unit c.args.file.now) board list image refl refl) ∙ c.in-Some.is in
     let now : first_moment ≡ c.args.self.now.now = ap (λ (m : Machine). m.now) c.self.view_is in
     c.in_ok-close-in-Some.ensures.ok
     ∙ tried_refused c.args.self.now (report_of c.args.report.now) c.args.file.now c.in-Some.status _ is (
-      ap (λ (p : Element). record p { standing = Closed (Some (Refused c.in-Some.status)) first_moment }) (c.attempt.view_is ∙ c.in_ok-attempt.ensures)
-      ∙ ap (λ (t : EfiTime). element_of thin (file_unit c.args.file.now) (Closed (Some (Refused c.in-Some.status)) t)) now
+    ap (λ (p : Element). record p { standing = Closed (Some (Refused c.in-Some.status)) first_moment }) (c.attempt.view_is ∙ c.in_ok-attempt.ensures)
+    ∙ ap (λ (t : EfiTime). element_of thin (file_unit c.args.file.now) (Closed (Some (Refused c.in-Some.status)) t)) now
     )
 
 pub returns-in_ok-settle-in-None-clause-ok : goal.returns-in_ok-settle-in-None-clause-ok
@@ -47,7 +47,7 @@ returns-in_ok-settle-in-None-clause-ok c =
     let board : c.args.self.now.board ≡ c.self.inside.board.now = ap (λ (m : Machine). m.board) (sym c.self.view_is) in
     let image : (file_unit c.args.file.now).image ≡ c.item_in-item.result.image.now = ap (λ (x : File). (thin_item x.bytes).image) (sym c.file.view_is) ∙ sym (ap (λ (i : Item). i.image) c.item_in-item.ensures) in
     let is : refusal thin c.args.self.now (file_unit c.args.file.now) ≡ None =
-        sym (c.refusal.ensures c.args.self.now (file_unit c.args.file.now) board list image refl refl) ∙ c.in-None.is in
+    sym (c.refusal.ensures c.args.self.now (file_unit c.args.file.now) board list image refl refl) ∙ c.in-None.is in
     c.in_ok-settle-in-None.ensures.ok
     ∙ ap (λ (b : Progress). whole thin b (Settles Try Sealed)) c.claim.ensures.value
     ∙ tried_claimed c.args.self.now (report_of c.args.report.now) c.args.file.now c.in_ok-attempt.attempt is c.in_ok-attempt.ensures
