@@ -22,3 +22,4 @@ pub mod Thin
 pub mod ThinValues
 pub mod Told
 pub mod Verdicts
+pub mod Whole
