@@ -32,6 +32,11 @@ played_as board events trace = record {
 abbrev pub played : BoardValue → List Event → Named → Finding
 played board events loaded = played_as board events (thin_trace board loaded events)
 
+-- no name stands twice
+abbrev pub AreDistinct : List (List ℕ) → Type 0
+AreDistinct [] = ⊤
+AreDistinct (name ∷ names) = (has_name name names ≡ false) × AreDistinct names
+
 -- the inputs of these names are read, where those before them are loaded and have this many bytes in sum
 abbrev pub inputs_work : BoardValue → List Event → Named → ℕ → List (List ℕ) → Work
 inputs_work board events loaded sum [] = Finds (played board events loaded)

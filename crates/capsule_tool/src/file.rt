@@ -9,8 +9,8 @@ ghost use Rattle.capsule_tool.specs.Works.{MayFind, MayStop};
 use crate::answer::Answer;
 use crate::check::{Verdict, judge, printed};
 use crate::form::FileWork;
-use crate::input::{Reading, read_input};
 use crate::status::Status;
+use crate::step::{Step, take_bytes};
 use capsule_grammar::DecodeFault;
 use cu_base::{MAX_CAPSULE_BYTES, NoMemory, Text};
 use cu_io::Inputs;
@@ -28,10 +28,9 @@ pub fn on_file<I: Inputs>(
     ensures named { I.named inputs.new ≡ I.named inputs.old }
     ensures later { I.faults inputs.old ≤ I.faults inputs.new }
 {
-    match read_input(alloc, inputs, name, MAX_CAPSULE_BYTES) {
-        Ok(Reading::Whole(bytes)) => on_bytes(alloc, work, bytes.as_slice()),
-        Ok(Reading::Unread) => Answer::unread(alloc, name.as_str()),
-        Ok(Reading::Long) => Answer::long(alloc, name.as_str()),
+    match take_bytes(alloc, name, MAX_CAPSULE_BYTES, inputs) {
+        Ok(Step::Goes(bytes)) => on_bytes(alloc, work, bytes.as_slice()),
+        Ok(Step::Ends(answer)) => Ok(answer),
         Err(NoMemory) => Err(NoMemory),
     }
 }

@@ -16,6 +16,7 @@ mod limits;
 mod play;
 mod program;
 mod status;
+mod step;
 #[cfg(test)]
 mod tests;
 

@@ -9,7 +9,6 @@ ghost use Rattle.capsule_tool.specs.Works.{MayFind, MayStop};
 mod board;
 mod inputs;
 mod script;
-mod step;
 
 use crate::answer::Answer;
 use crate::found::Found;
@@ -22,7 +21,7 @@ use inputs::take_inputs;
 use reset_play::{MAX_EVENTS, Script, Trace, script_inputs, trace_text};
 use script::take_script;
 use std::alloc::Global;
-use step::Step;
+use crate::step::Step;
 
 /// Reads the board and the script of these names and the inputs that the script names, and plays.
 pub fn on_play<I: Inputs>(

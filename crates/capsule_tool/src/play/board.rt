@@ -1,17 +1,16 @@
 //! The board is read and parsed.
-ghost use Rattle.std.specs.Prelude.{◌≡◌, ◌≤◌, ℕ, List, IsTrue, Result, IfOk, OnErr};
+ghost use Rattle.std.specs.Prelude.{◌≡◌, ◌≤◌, ℕ, List, IsTrue, IfOk, OnErr};
 ghost use Rattle.recipe_files.specs.Boards.{board_text};
 ghost use Rattle.reset_play.specs.Plays.{has_one_device};
 ghost use Rattle.capsule_tool.specs.Plays.{board_next, play_work, script_work};
 ghost use Rattle.capsule_tool.specs.Readings.{seen};
-ghost use Rattle.capsule_tool.specs.Steps.{StepsTo, OnGoes};
+ghost use Rattle.capsule_tool.specs.Steps.{StepsTo, IsStep, OnGoes};
 ghost use Rattle.capsule_tool.specs.Works.{MayStop};
 
-use super::step::Step;
 use crate::answer::Answer;
-use crate::input::{Reading, read_input};
 use crate::kinds::board_kind;
 use crate::limits::MAX_TEXT_BYTES;
+use crate::step::{Step, take_bytes};
 use bench_model::Board;
 use cu_base::{NoMemory, Text};
 use cu_io::Inputs;
@@ -30,17 +29,16 @@ pub fn take_board<I: Inputs>(
     ensures named { I.named inputs.new ≡ I.named inputs.old }
     ensures later { I.faults inputs.old ≤ I.faults inputs.new }
 {
-    match read_input(alloc, inputs, name, MAX_TEXT_BYTES) {
-        Ok(Reading::Whole(bytes)) => board_of(alloc, name.as_str(), bytes.as_slice()),
-        Ok(Reading::Unread) => Ok(Step::Ends(Answer::unread(alloc, name.as_str())?)),
-        Ok(Reading::Long) => Ok(Step::Ends(Answer::long(alloc, name.as_str())?)),
+    match take_bytes(alloc, name, MAX_TEXT_BYTES, inputs) {
+        Ok(Step::Goes(bytes)) => board_of(alloc, name.as_str(), bytes.as_slice()),
+        Ok(Step::Ends(answer)) => Ok(Step::Ends(answer)),
         Err(NoMemory) => Err(NoMemory),
     }
 }
 
 /// The board of one device that the bytes say.
 fn board_of(alloc: Global, name: &str, bytes: &[u8]) -> Result<Step<Board>, NoMemory>
-    ensures next { (script : List ℕ) → IfOk result (StepsBy (board_next name.now script (board_text bytes.now)) (λ board. script_work board script)) }
+    ensures next { (script : List ℕ) → IfOk result (IsStep (board_next name.now script (board_text bytes.now)) (λ board. script_work board script)) }
     ensures one { IfOk result (OnGoes (λ board. IsTrue (has_one_device board))) }
 {
     match read_board(alloc, bytes) {
@@ -51,11 +49,10 @@ fn board_of(alloc: Global, name: &str, bytes: &[u8]) -> Result<Step<Board>, NoMe
                 Ok(Step::Ends(Answer::later(alloc, name)?))
             }
         }
-        Err(FileFault::Bad { kind, key }) => Ok(Step::Ends(Answer::faulty_board(
-            alloc,
-            board_kind(kind),
-            key.as_str(),
-        )?)),
+        Err(FileFault::Bad { kind, key }) => {
+            let kind = board_kind(kind);
+            Ok(Step::Ends(Answer::faulty_board(alloc, kind, key.as_str())?))
+        }
         Err(FileFault::Memory) => Err(NoMemory),
     }
 }
