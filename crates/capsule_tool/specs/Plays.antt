@@ -1,6 +1,6 @@
 -- The work of a play: the board is read and parsed, then the script, then the inputs that the script names, each once in order
 -- of first mention. The first failure decides.
-use Rattle.std.specs.Prelude.{ℕ, ◌+◌, nat_lt, List, [], ◌∷◌, ◌++◌, length, map, Result, Ok, Err, if◌then◌else◌}
+use Rattle.std.specs.Prelude.{ℕ, ◌+◌, nat_lt, ◌≡◌, Bool, false, ⊤, List, [], ◌∷◌, ◌++◌, length, map, Result, Ok, Err, if◌then◌else◌}
 use Rattle.std.specs.List.{list_all}
 use Rattle.bench_model.specs.Boards.{BoardValue}
 use Rattle.cu_base.specs.declared.limits.TheConstants.{MAX_CAPSULE_BYTES}
@@ -8,7 +8,7 @@ use Rattle.cu_io.specs.Named.{Named}
 use Rattle.recipe_files.specs.Boards.{board_text}
 use Rattle.recipe_files.specs.declared.faults.BadKind.{BadKind}
 use Rattle.reset_play.specs.Plays.{has_one_device, is_of_files, is_thin_on, thin_trace}
-use Rattle.reset_play.specs.ScriptInputs.{inputs_of}
+use Rattle.reset_play.specs.ScriptInputs.{inputs_of, has_name}
 use Rattle.reset_play.specs.ScriptText.{Said as ScriptSaid, script_said}
 use Rattle.reset_play.specs.Texts.{trace_text}
 use Rattle.reset_play.specs.Told.{Said}
@@ -37,13 +37,21 @@ abbrev pub AreDistinct : List (List ℕ) → Type 0
 AreDistinct [] = ⊤
 AreDistinct (name ∷ names) = (has_name name names ≡ false) × AreDistinct names
 
--- the inputs of these names are read, where those before them are loaded and have this many bytes in sum
+-- what is done with an input by its bytes, where those before it are loaded and have this many bytes in sum: rest goes on
+abbrev pub input_next : BoardValue → Named → ℕ → List ℕ → (Named → ℕ → Work) → List ℕ → Work
+input_next board loaded sum name rest bytes =
+    if nat_lt MAX_NAMED_BYTES (sum + length bytes) then Finds (bare (long name))
+    else if is_thin_on board bytes then rest (loaded ++ (name, bytes) ∷ []) (sum + length bytes)
+    else Finds (bare (later name))
+
+abbrev pub input_work : BoardValue → Named → ℕ → List ℕ → (Named → ℕ → Work) → Work
+input_work board loaded sum name rest = Reads MAX_CAPSULE_BYTES name (input_next board loaded sum name rest)
+
+-- the inputs of these names, one after the other
 abbrev pub inputs_work : BoardValue → List Event → Named → ℕ → List (List ℕ) → Work
 inputs_work board events loaded sum [] = Finds (played board events loaded)
-inputs_work board events loaded sum (name ∷ names) = Reads MAX_CAPSULE_BYTES name (λ bytes.
-    if nat_lt MAX_NAMED_BYTES (sum + length bytes) then Finds (bare (long name))
-    else if is_thin_on board bytes then inputs_work board events (loaded ++ (name, bytes) ∷ []) (sum + length bytes) names
-    else Finds (bare (later name)))
+inputs_work board events loaded sum (name ∷ names) =
+    input_work board loaded sum name (λ loaded' sum'. inputs_work board events loaded' sum' names)
 
 -- what is done by what the script of this name says
 abbrev pub script_next : BoardValue → List ℕ → ScriptSaid → Work

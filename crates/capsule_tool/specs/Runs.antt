@@ -12,16 +12,17 @@ use Rattle.capsule_tool.specs.Statuses.{code_of}
 use Rattle.capsule_tool.specs.Told.{told}
 use Rattle.capsule_tool.specs.Works.{Work, Comes, MayFind, MayStop}
 use Rattle.capsule_tool.specs.Works.Work.{Finds, Reads}
+use Rattle.capsule_tool.specs.declared.answer.Answer.{Answer}
 use Rattle.capsule_tool.specs.declared.form.Form.{Form}
 use Rattle.capsule_tool.specs.declared.limits.TheConstants.{MAX_NAMED_BYTES}
 
--- what was found is written whole and gives the status; or a write failed and the sink's count rose, or memory ran
+-- the answer is written whole and gives the status; or a write failed and the sink's count rose, or memory ran
 -- out, and a prefix of it was written
-abbrev pub Writes : Finding → ℕ → Option (List ℕ) → Option (List ℕ) → ℕ → ℕ → Type 0
-Writes finding status written written' faults faults' =
-    ((status ≡ code_of finding.answer.status) × Appends written written' finding.answer.text)
-    ⊎ (((status ≡ 5) × Rose faults faults' × AppendsFront written written' finding.answer.text)
-    ⊎ ((status ≡ 6) × AppendsFront written written' finding.answer.text))
+abbrev pub Writes : Answer → ℕ → Option (List ℕ) → Option (List ℕ) → ℕ → ℕ → Type 0
+Writes answer status written written' faults faults' =
+    ((status ≡ code_of answer.status) × Appends written written' answer.text)
+    ⊎ (((status ≡ 5) × Rose faults faults' × AppendsFront written written' answer.text)
+    ⊎ ((status ≡ 6) × AppendsFront written written' answer.text))
 
 -- the told status, trace and text; or memory ran out
 abbrev pub AnswersAsTold : Option Named → List (List ℕ) → ℕ → List Said → Option (List ℕ) → Option (List ℕ) → Type 0
@@ -62,18 +63,19 @@ IsLong work named before after trace written written' =
 -- what was written begins what the run may find, by which it ends; or memory ran out before anything was found
 abbrev pub WritesFront : Work → Option Named → Seen → Seen → ℕ → Option (List ℕ) → Option (List ℕ) → ℕ → ℕ → Type 0
 WritesFront work named before after status written written' faults faults' =
-    ((finding : Finding) × MayFind named work before after finding × Writes finding status written written' faults faults')
+    ((finding : Finding) × MayFind named work before after finding × Writes finding.answer status written written' faults faults')
     ⊎ ((status ≡ 6) × Keeps written written')
 
 -- a run that found this ends with its status, or with that of a failed write or of want of memory
 abbrev pub EndsWith : Finding → ℕ → Type 0
 EndsWith finding status = (status ≡ code_of finding.answer.status) ⊎ ((status ≡ 5) ⊎ (status ≡ 6))
 
--- the trace is that of what the run may find; with want of memory it is a front of one, or empty
+-- the trace is that of what the run may find, or empty where memory ran out; with 1 to 4, 7 and 8 it is empty
 abbrev pub IsTrace : Work → Option Named → Seen → Seen → ℕ → List Said → Type 0
 IsTrace work named before after status trace =
-    ((finding : Finding) × MayFind named work before after finding × (trace ≡ finding.trace) × EndsWith finding status)
-    ⊎ ((status ≡ 6) × (trace ≡ []))
+    (((finding : Finding) × MayFind named work before after finding × (trace ≡ finding.trace) × EndsWith finding status)
+        ⊎ ((status ≡ 6) × (trace ≡ [])))
+    × ((trace ≡ []) ⊎ ((status ≡ 0) ⊎ ((status ≡ 5) ⊎ (status ≡ 6))))
 
 -- the names that the words and the script give were asked for, in order, up to the input that decided; or up to where
 -- memory ran out

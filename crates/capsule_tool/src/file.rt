@@ -2,13 +2,13 @@
 ghost use Rattle.std.specs.Prelude.{◌≡◌, ◌≤◌, None, IfOk, OnErr};
 ghost use Rattle.capsule_grammar.specs.Refusals.{refusal};
 ghost use Rattle.capsule_tool.specs.Files.{file_work, bytes_answer, whole_answer, rebuilt};
-ghost use Rattle.capsule_tool.specs.Findings.{bare};
 ghost use Rattle.capsule_tool.specs.Readings.{seen};
 ghost use Rattle.capsule_tool.specs.Works.{MayFind, MayStop};
 
 use crate::answer::Answer;
 use crate::check::{Verdict, judge, printed};
 use crate::form::FileWork;
+use crate::found::Found;
 use crate::status::Status;
 use crate::step::{Step, take_bytes};
 use capsule_grammar::DecodeFault;
@@ -22,15 +22,18 @@ pub fn on_file<I: Inputs>(
     work: FileWork,
     name: &Text,
     inputs: &mut I,
-) -> Result<Answer, NoMemory>
-    ensures found { IfOk result (λ answer. MayFind (I.named inputs.old) (file_work work name.now) (seen (I.asked inputs.old) (I.faults inputs.old) (I.taken inputs.old)) (seen (I.asked inputs.new) (I.faults inputs.new) (I.taken inputs.new)) (bare answer)) }
+) -> Result<Found, NoMemory>
+    ensures found { IfOk result (MayFind (I.named inputs.old) (file_work work name.now) (seen (I.asked inputs.old) (I.faults inputs.old) (I.taken inputs.old)) (seen (I.asked inputs.new) (I.faults inputs.new) (I.taken inputs.new))) }
     ensures memory { OnErr result (MayStop (I.named inputs.old) (file_work work name.now) (seen (I.asked inputs.old) (I.faults inputs.old) (I.taken inputs.old)) (seen (I.asked inputs.new) (I.faults inputs.new) (I.taken inputs.new))) }
     ensures named { I.named inputs.new ≡ I.named inputs.old }
     ensures later { I.faults inputs.old ≤ I.faults inputs.new }
 {
     match take_bytes(alloc, name, MAX_CAPSULE_BYTES, inputs) {
-        Ok(Step::Goes(bytes)) => on_bytes(alloc, work, bytes.as_slice()),
-        Ok(Step::Ends(answer)) => Ok(answer),
+        Ok(Step::Goes(bytes)) => {
+            let answer = on_bytes(alloc, work, bytes.as_slice())?;
+            Ok(Found::bare(alloc, answer))
+        }
+        Ok(Step::Ends(answer)) => Ok(Found::bare(alloc, answer)),
         Err(NoMemory) => Err(NoMemory),
     }
 }

@@ -1,8 +1,9 @@
 //! The work on a board and a script.
-ghost use Rattle.std.specs.Prelude.{◌≡◌, ◌≤◌, IsTrue, ℕ, length, map, IfOk, OnErr};
+ghost use Rattle.std.specs.Prelude.{◌≡◌, ◌≤◌, IsTrue, [], length, IfOk, OnErr};
 ghost use Rattle.std.specs.List.{list_all};
-ghost use Rattle.reset_play.specs.Plays.{has_one_device, can_play};
-ghost use Rattle.capsule_tool.specs.Plays.{play_work, played};
+ghost use Rattle.reset_play.specs.Plays.{has_one_device, is_of_files, can_play};
+ghost use Rattle.reset_play.specs.ScriptInputs.{inputs_of};
+ghost use Rattle.capsule_tool.specs.Plays.{play_work, script_work, inputs_work, played};
 ghost use Rattle.capsule_tool.specs.Readings.{seen};
 ghost use Rattle.capsule_tool.specs.Works.{MayFind, MayStop};
 
@@ -55,7 +56,7 @@ fn on_script<I: Inputs>(
     ensures named { I.named inputs.new ≡ I.named inputs.old }
     ensures later { I.faults inputs.old ≤ I.faults inputs.new }
 {
-    match take_script(alloc, board, name, inputs) {
+    match take_script(alloc, name, inputs) {
         Ok(Step::Goes(script)) => on_inputs(alloc, board, &script, inputs),
         Ok(Step::Ends(answer)) => Ok(Found::bare(alloc, answer)),
         Err(NoMemory) => Err(NoMemory),

@@ -1,7 +1,7 @@
 //! The steps of a play, and the first of each: the bytes of an input.
 ghost use Rattle.std.specs.Prelude.{◌≡◌, ◌≤◌, ℕ, List, IfOk, OnErr};
 ghost use Rattle.capsule_tool.specs.Readings.{seen};
-ghost use Rattle.capsule_tool.specs.Steps.{StepsTo};
+ghost use Rattle.capsule_tool.specs.Steps.{StepsTo, StepsBy};
 ghost use Rattle.capsule_tool.specs.Works.{Work, MayStop};
 ghost use Rattle.capsule_tool.specs.Works.Work.{Reads};
 

@@ -29,7 +29,7 @@ pub use script::{
 };
 pub use snapshot::{CapsuleResult, EsrtEntry, FmpResult, FolderFile, Snapshot, StagedPair};
 pub use text::trace_text;
-pub use thin_play::play;
+pub use thin_play::{is_thin_on, play};
 pub use trace::{Answer, BootEnd, Entry};
 pub use unit::{End, Kind, UnitKey, UnitLine};
 

@@ -1,13 +1,13 @@
 //! The inputs that the script names are read, one after the other.
 ghost use Rattle.std.specs.Prelude.{◌≡◌, ◌≤◌, ◌+◌, ◌++◌, ◌∷◌, [], ℕ, List, IsTrue, length, map, IfOk, OnErr};
 ghost use Rattle.std.specs.List.{list_all};
-ghost use Rattle.cu_io.specs.Named.{LacksName};
+ghost use Rattle.cu_io.specs.Named.{Named, LacksName};
 ghost use Rattle.reset_play.specs.declared.event.Event.{Event};
 ghost use Rattle.reset_play.specs.Plays.{is_thin_on};
-ghost use Rattle.capsule_tool.specs.Plays.{AreDistinct, input_next, inputs_work, played};
+ghost use Rattle.capsule_tool.specs.Plays.{AreDistinct, input_next, input_work, inputs_work, played};
 ghost use Rattle.capsule_tool.specs.Readings.{seen};
 ghost use Rattle.capsule_tool.specs.Steps.{StepsTo, IsStep, OnGoes};
-ghost use Rattle.capsule_tool.specs.Works.{MayStop};
+ghost use Rattle.capsule_tool.specs.Works.{Work, MayStop};
 ghost use Rattle.capsule_tool.specs.Works.Work.{Finds};
 
 use crate::answer::Answer;
@@ -57,11 +57,11 @@ fn take_input<I: Inputs>(
 ) -> Result<Step<()>, NoMemory>
     requires new { LacksName loaded.old.items name.now }
     requires small { sum.old ≤ MAX_NAMED_BYTES }
-    ensures found { (events : List Event) → (names : List (List ℕ)) → IfOk result (StepsTo (I.named inputs.old) (inputs_work board.now events loaded.old.items sum.old (name.now ∷ names)) (seen (I.asked inputs.old) (I.faults inputs.old) (I.taken inputs.old)) (seen (I.asked inputs.new) (I.faults inputs.new) (I.taken inputs.new)) (λ _. inputs_work board.now events loaded.new.items sum.new names)) }
+    ensures found { (rest : Named → ℕ → Work) → IfOk result (StepsTo (I.named inputs.old) (input_work board.now loaded.old.items sum.old name.now rest) (seen (I.asked inputs.old) (I.faults inputs.old) (I.taken inputs.old)) (seen (I.asked inputs.new) (I.faults inputs.new) (I.taken inputs.new)) (λ _. rest loaded.new.items sum.new)) }
     ensures names { IfOk result (OnGoes (λ _. map (λ pair. pair.0) loaded.new.items ≡ map (λ pair. pair.0) loaded.old.items ++ name.now ∷ [])) }
     ensures thin { IsTrue (list_all (λ pair. is_thin_on board.now pair.1) loaded.old.items) → IsTrue (list_all (λ pair. is_thin_on board.now pair.1) loaded.new.items) }
     ensures small { sum.new ≤ MAX_NAMED_BYTES }
-    ensures memory { (events : List Event) → (names : List (List ℕ)) → OnErr result (MayStop (I.named inputs.old) (inputs_work board.now events loaded.old.items sum.old (name.now ∷ names)) (seen (I.asked inputs.old) (I.faults inputs.old) (I.taken inputs.old)) (seen (I.asked inputs.new) (I.faults inputs.new) (I.taken inputs.new))) }
+    ensures memory { (rest : Named → ℕ → Work) → OnErr result (MayStop (I.named inputs.old) (input_work board.now loaded.old.items sum.old name.now rest) (seen (I.asked inputs.old) (I.faults inputs.old) (I.taken inputs.old)) (seen (I.asked inputs.new) (I.faults inputs.new) (I.taken inputs.new))) }
     ensures named { I.named inputs.new ≡ I.named inputs.old }
     ensures later { I.faults inputs.old ≤ I.faults inputs.new }
 {
@@ -83,7 +83,7 @@ fn keep_input(
 ) -> Result<Step<()>, NoMemory>
     requires new { LacksName loaded.old.items name.now }
     requires small { sum.old ≤ MAX_NAMED_BYTES }
-    ensures next { (events : List Event) → (names : List (List ℕ)) → IfOk result (IsStep (input_next board.now events loaded.old.items sum.old name.now names bytes) (λ _. inputs_work board.now events loaded.new.items sum.new names)) }
+    ensures next { (rest : Named → ℕ → Work) → IfOk result (IsStep (input_next board.now loaded.old.items sum.old name.now rest bytes) (λ _. rest loaded.new.items sum.new)) }
     ensures names { IfOk result (OnGoes (λ _. map (λ pair. pair.0) loaded.new.items ≡ map (λ pair. pair.0) loaded.old.items ++ name.now ∷ [])) }
     ensures thin { IsTrue (list_all (λ pair. is_thin_on board.now pair.1) loaded.old.items) → IsTrue (list_all (λ pair. is_thin_on board.now pair.1) loaded.new.items) }
     ensures small { sum.new ≤ MAX_NAMED_BYTES }

@@ -1,6 +1,6 @@
 //! The lines of a script, one after the other.
 
-ghost use Rattle.std.specs.Prelude.{◌≡◌, ◌<◌, ◌≤◌, ◌+◌, ◌^◌, ℕ, List, ◌∷◌, Err, length, OnOk, IfErr};
+ghost use Rattle.std.specs.Prelude.{◌≡◌, ◌<◌, ◌≤◌, ◌+◌, ◌^◌, ℕ, List, ◌∷◌, Err, length, OnOk, IfOk, IfErr};
 ghost use Rattle.reset_play.specs.ScriptAnswers.{Gives, GivesScript, Refuses};
 ghost use Rattle.reset_play.specs.ScriptText.{is_plain, line_said, lines_said, script_said, behind};
 
@@ -47,6 +47,7 @@ fn take_line(
         ≡ behind script.new.items (lines_said (number + 1) (length script.new.items) rest)) }
     ensures err { IfErr result (λ fault. (rest : List (List ℕ)) →
         Refuses fault (lines_said number (length script.old.items) (line.now ∷ rest))) }
+    ensures short { length script.old.items ≤ MAX_EVENTS → length script.new.items ≤ MAX_EVENTS }
 {
     if line.is_empty() {
         return Ok(());
@@ -79,6 +80,7 @@ fn take_line(
 pub fn read_script(alloc: Global, bytes: &[u8]) -> Result<Script, ScriptFault>
     requires { length bytes.now < 2 ^ 32 }
     ensures value { GivesScript result (script_said bytes.now) }
+    ensures short { IfOk result (λ script. length script.items ≤ MAX_EVENTS) }
 {
     let mut script = Script::new(alloc);
     let mut text = bytes;

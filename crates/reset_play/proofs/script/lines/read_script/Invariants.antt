@@ -9,6 +9,7 @@ invariant-lines l = record {
   said : behind l.script.items (lines_said l.number (length l.script.items) (parts 10 l.text)) ≡ script_said l.fn.bytes;
   number : l.number + length l.text ≤ length l.fn.bytes + 1;
   short : length l.fn.bytes < 2 ^ 32;
+  few : length l.script.items ≤ 4096;
 }
 
 abbrev pub decreases-lines : goal.decreases-lines
