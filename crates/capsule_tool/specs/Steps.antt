@@ -1,5 +1,5 @@
 -- Where a step of the program comes to.
-use Rattle.std.specs.Prelude.{◌≡◌, ℕ, List, Option, ⊤, ⊥}
+use Rattle.std.specs.Prelude.{◌≡◌, ℕ, List, Option, ⊤}
 use Rattle.cu_io.specs.Named.{Named}
 use Rattle.capsule_tool.specs.Answers.{unread, long}
 use Rattle.capsule_tool.specs.Findings.{bare}
