@@ -1,2 +1,3 @@
 pub mod FormLaws
+pub mod PlayLaws
 pub mod WorkLaws

@@ -7,7 +7,7 @@ use Rattle.cu_base.specs.Causes.{RoseBy}
 use Rattle.cu_io.specs.Named.{Named}
 use Rattle.capsule_tool.specs.Findings.{Finding, bare}
 use Rattle.capsule_tool.specs.Readings.{Seen, MayHold, WasRead}
-use Rattle.capsule_tool.specs.Steps.{StepsTo, IsStep, StepsBy}
+use Rattle.capsule_tool.specs.Steps.{StepsTo, IsStep, StepsBy, OnGoes}
 use Rattle.capsule_tool.specs.Works.{Work, Comes, names_by, next_names, Took, ComesTo, EndsAt, MayFind, MayStop}
 use Rattle.capsule_tool.specs.Works.Work.{Finds, Reads}
 use Rattle.capsule_tool.specs.declared.answer.Answer.{Answer}
@@ -96,6 +96,30 @@ step_by named limit name next b a Unread (Goes value) read is = absurd is
 step_by named limit name next b a Unread (Ends answer) read is = ended _ _ _ _ _ (Unread, read, ap bare is)
 step_by named limit name next b a Long (Goes value) read is = absurd is
 step_by named limit name next b a Long (Ends answer) read is = ended _ _ _ _ _ (Long, read, ap bare is)
+
+pub step_short : (named : Option Named) (limit : ℕ) (name : List ℕ) (b a : Seen) (reading : Reading) (step : Step (List ℕ))
+    → WasRead named limit name b a reading → StepsBy name reading step → OnGoes (λ bytes. length bytes ≤ limit) step
+step_short named limit name b a (Whole bytes) (Goes value) read is = rw is (read.gives.1)
+step_short named limit name b a (Whole bytes) (Ends answer) read is = tt
+step_short named limit name b a Unread (Goes value) read is = absurd is
+step_short named limit name b a Unread (Ends answer) read is = tt
+step_short named limit name b a Long (Goes value) read is = absurd is
+step_short named limit name b a Long (Ends answer) read is = tt
+
+pub goes_to : {V : Type 0} (named : Option Named) (w : Work) (b a : Seen) (next : V → Work) (step : Step V) (value : V)
+    → step ≡ Goes value → StepsTo named w b a next step → ComesTo named w b (next value) a
+goes_to named w b a next step value is to = rw is at to
+
+pub ends_with : {V : Type 0} (named : Option Named) (w : Work) (b a : Seen) (next : V → Work) (step : Step V) (answer : Answer)
+    → step ≡ Ends answer → StepsTo named w b a next step → MayFind named w b a (bare answer)
+ends_with named w b a next step answer is to = rw is at to
+
+pub goes_short : (limit : ℕ) (step : Step (List ℕ)) (bytes : List ℕ) → step ≡ Goes bytes → OnGoes (λ bytes. length bytes ≤ limit) step → length bytes ≤ limit
+goes_short limit step bytes is short = rw is at short
+
+pub finds_as : (named : Option Named) (w : Work) (b a : Seen) (finding finding' : Finding)
+    → finding ≡ finding' → MayFind named w b a finding' → MayFind named w b a finding
+finds_as named w b a finding finding' is found = rw is found
 
 pub step_on : {V : Type 0} (named : Option Named) (w : Work) (b : Seen) (w' : Work) (a : Seen) (next : V → Work) (step : Step V)
     → ComesTo named w b w' a → IsStep w' next step → StepsTo named w b a next step

@@ -1,7 +1,7 @@
 //! The steps of a play, and the first of each: the bytes of an input.
-ghost use Rattle.std.specs.Prelude.{◌≡◌, ◌≤◌, ℕ, List, IfOk, OnErr};
+ghost use Rattle.std.specs.Prelude.{◌≡◌, ◌≤◌, ℕ, List, length, IfOk, OnErr};
 ghost use Rattle.capsule_tool.specs.Readings.{seen};
-ghost use Rattle.capsule_tool.specs.Steps.{StepsTo, StepsBy};
+ghost use Rattle.capsule_tool.specs.Steps.{StepsTo, StepsBy, OnGoes};
 ghost use Rattle.capsule_tool.specs.Works.{Work, MayStop};
 ghost use Rattle.capsule_tool.specs.Works.Work.{Reads};
 
@@ -26,6 +26,7 @@ pub fn take_bytes<I: Inputs>(
     inputs: &mut I,
 ) -> Result<Step<Blob>, NoMemory>
     ensures found { (next : List ℕ → Work) → IfOk result (StepsTo (I.named inputs.old) (Reads limit name.now next) (seen (I.asked inputs.old) (I.faults inputs.old) (I.taken inputs.old)) (seen (I.asked inputs.new) (I.faults inputs.new) (I.taken inputs.new)) next) }
+    ensures short { IfOk result (OnGoes (λ bytes. length bytes ≤ limit)) }
     ensures memory { (next : List ℕ → Work) → OnErr result (MayStop (I.named inputs.old) (Reads limit name.now next) (seen (I.asked inputs.old) (I.faults inputs.old) (I.taken inputs.old)) (seen (I.asked inputs.new) (I.faults inputs.new) (I.taken inputs.new))) }
     ensures named { I.named inputs.new ≡ I.named inputs.old }
     ensures later { I.faults inputs.old ≤ I.faults inputs.new }

@@ -12,7 +12,7 @@ use crate::kinds::board_kind;
 use crate::limits::MAX_TEXT_BYTES;
 use crate::step::{Step, take_bytes};
 use bench_model::Board;
-use cu_base::{NoMemory, Text};
+use cu_base::{Blob, NoMemory, Text};
 use cu_io::Inputs;
 use recipe_files::{FileFault, read_board};
 use std::alloc::Global;
@@ -30,23 +30,23 @@ pub fn take_board<I: Inputs>(
     ensures later { I.faults inputs.old ≤ I.faults inputs.new }
 {
     match take_bytes(alloc, name, MAX_TEXT_BYTES, inputs) {
-        Ok(Step::Goes(bytes)) => board_of(alloc, name.as_str(), bytes.as_slice()),
+        Ok(Step::Goes(bytes)) => board_of(alloc, name, &bytes),
         Ok(Step::Ends(answer)) => Ok(Step::Ends(answer)),
         Err(NoMemory) => Err(NoMemory),
     }
 }
 
 /// The board of one device that the bytes say.
-fn board_of(alloc: Global, name: &str, bytes: &[u8]) -> Result<Step<Board>, NoMemory>
+fn board_of(alloc: Global, name: &Text, bytes: &Blob) -> Result<Step<Board>, NoMemory>
     ensures next { (script : List ℕ) → IfOk result (IsStep (board_next name.now script (board_text bytes.now)) (λ board. script_work board script)) }
     ensures one { IfOk result (OnGoes (λ board. IsTrue (has_one_device board))) }
 {
-    match read_board(alloc, bytes) {
+    match read_board(alloc, bytes.as_slice()) {
         Ok(board) => {
             if board.devices().len() == 1 {
                 Ok(Step::Goes(board))
             } else {
-                Ok(Step::Ends(Answer::later(alloc, name)?))
+                Ok(Step::Ends(Answer::later(alloc, name.as_str())?))
             }
         }
         Err(FileFault::Bad { kind, key }) => {

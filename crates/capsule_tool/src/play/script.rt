@@ -14,7 +14,7 @@ use crate::answer::Answer;
 use crate::kinds::script_kind;
 use crate::limits::MAX_TEXT_BYTES;
 use crate::step::{Step, take_bytes};
-use cu_base::{NoMemory, Text};
+use cu_base::{Blob, NoMemory, Text};
 use cu_io::Inputs;
 use reset_play::{Event, MAX_EVENTS, Script, ScriptFault, read_script};
 use std::alloc::Global;
@@ -33,25 +33,25 @@ pub fn take_script<I: Inputs>(
     ensures later { I.faults inputs.old ≤ I.faults inputs.new }
 {
     match take_bytes(alloc, name, MAX_TEXT_BYTES, inputs) {
-        Ok(Step::Goes(bytes)) => script_of(alloc, name.as_str(), bytes.as_slice()),
+        Ok(Step::Goes(bytes)) => script_of(alloc, name, &bytes),
         Ok(Step::Ends(answer)) => Ok(Step::Ends(answer)),
         Err(NoMemory) => Err(NoMemory),
     }
 }
 
 /// The script of files alone that the bytes say.
-fn script_of(alloc: Global, name: &str, bytes: &[u8]) -> Result<Step<Script>, NoMemory>
+fn script_of(alloc: Global, name: &Text, bytes: &Blob) -> Result<Step<Script>, NoMemory>
     requires { length bytes.now < 2 ^ 32 }
     ensures next { (board : BoardValue) → IfOk result (IsStep (script_next board name.now (script_said bytes.now)) (λ script. inputs_work board script.items [] 0 (inputs_of script.items))) }
     ensures short { IfOk result (OnGoes (λ script. length script.items ≤ MAX_EVENTS)) }
     ensures events { IfOk result (OnGoes (λ script. IsTrue (list_all is_of_files script.items))) }
 {
-    match read_script(alloc, bytes) {
+    match read_script(alloc, bytes.as_slice()) {
         Ok(script) => {
-            if script.as_slice().iter().all(is_of_files) {
+            if are_of_files(script.as_slice()) {
                 Ok(Step::Goes(script))
             } else {
-                Ok(Step::Ends(Answer::later(alloc, name)?))
+                Ok(Step::Ends(Answer::later(alloc, name.as_str())?))
             }
         }
         Err(ScriptFault::Bad { line, kind }) => {
@@ -60,6 +60,12 @@ fn script_of(alloc: Global, name: &str, bytes: &[u8]) -> Result<Step<Script>, No
         }
         Err(ScriptFault::Memory) => Err(NoMemory),
     }
+}
+
+fn are_of_files(events: &[Event]) -> bool
+    ensures { result ≡ list_all is_of_files events.now }
+{
+    events.iter().all(is_of_files)
 }
 
 /// Whether an event is one of files alone: drop, signal or boot.
