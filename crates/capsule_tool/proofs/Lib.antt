@@ -1,3 +1,5 @@
+pub mod ComingLaws
 pub mod FormLaws
+pub mod NameLaws
 pub mod PlayLaws
 pub mod WorkLaws

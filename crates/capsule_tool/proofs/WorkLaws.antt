@@ -114,6 +114,9 @@ pub ends_with : {V : Type 0} (named : Option Named) (w : Work) (b a : Seen) (nex
     → step ≡ Ends answer → StepsTo named w b a next step → MayFind named w b a (bare answer)
 ends_with named w b a next step answer is to = rw is at to
 
+pub goes_holds : {V : Type 0} (P : V → Type 0) (step : Step V) (value : V) → step ≡ Goes value → OnGoes P step → P value
+goes_holds P step value is holds = rw is at holds
+
 pub goes_short : (limit : ℕ) (step : Step (List ℕ)) (bytes : List ℕ) → step ≡ Goes bytes → OnGoes (λ bytes. length bytes ≤ limit) step → length bytes ≤ limit
 goes_short limit step bytes is short = rw is at short
 

@@ -89,6 +89,7 @@ fn on_inputs<I: Inputs>(
 }
 
 /// Plays over the inputs that were read.
+
 fn played(
     alloc: Global,
     board: &Board,
