@@ -4,6 +4,7 @@ use Rattle.std.proofs.Math.Seq.{drop-cons}
 use Rattle.std.proofs.lemmas.List.{take_more, drop_all}
 use Rattle.bench_model.specs.Boards.{BoardValue}
 use Rattle.cu_io.specs.Named.{Named}
+use Rattle.reset_play.specs.ScriptInputs.{inputs_of}
 use Rattle.reset_play.specs.declared.event.Event.{Event}
 use Rattle.capsule_tool.specs.Findings.{Finding}
 use Rattle.capsule_tool.specs.Plays.{input_work, inputs_work, played}
@@ -72,3 +73,16 @@ item_take names i name loaded loaded' low is more before =
 
 pub drop_past : (names : List (List ℕ)) (i : ℕ) → length names ≤ i → drop i names ≡ []
 drop_past names i past = drop_all i names past
+
+-- the names of a script
+pub names_come : (named : Option Named) (board : BoardValue) (events : List Event) (names : List (List ℕ)) (b : Seen) (w : Work) (a : Seen) → names ≡ inputs_of events
+    → ComesTo named (inputs_work board events [] 0 names) b w a → ComesTo named (inputs_work board events [] 0 (inputs_of events)) b w a
+names_come named board events names b w a is comes = rw is at comes
+
+pub names_find : (named : Option Named) (board : BoardValue) (events : List Event) (names : List (List ℕ)) (b a : Seen) (finding : Finding) → names ≡ inputs_of events
+    → MayFind named (inputs_work board events [] 0 names) b a finding → MayFind named (inputs_work board events [] 0 (inputs_of events)) b a finding
+names_find named board events names b a finding is found = rw is at found
+
+pub names_stop : (named : Option Named) (board : BoardValue) (events : List Event) (names : List (List ℕ)) (b a : Seen) → names ≡ inputs_of events
+    → MayStop named (inputs_work board events [] 0 names) b a → MayStop named (inputs_work board events [] 0 (inputs_of events)) b a
+names_stop named board events names b a is stops = rw is at stops

@@ -1,5 +1,5 @@
 -- The names of a script's inputs: each once, and each loaded when the play begins.
-use Rattle.std.proofs.Common.{◌≡◌, ℕ, suc, ◌+◌, ◌≤◌, Bool, true, false, not, ◌&&◌, ◌||◌, cond, List, [], ◌∷◌, ◌++◌, get_or, length, map, take, drop, Option, None, Some, refl, sym, ◌∙◌, ap, arith}
+use Rattle.std.proofs.Common.{◌≡◌, ℕ, zero, suc, ◌+◌, ◌≤◌, Bool, true, false, not, ◌&&◌, ◌||◌, cond, List, [], ◌∷◌, ◌++◌, get_or, length, map, take, drop, Option, None, Some, refl, sym, ◌∙◌, ap, arith}
 use Rattle.std.specs.Prelude.{unwrap_or}
 use Rattle.std.specs.List.{list_all, list_any, filter, filter_map, cons_option}
 use Rattle.std.specs.Str.{bytes_eq}
@@ -83,7 +83,7 @@ once_distinct (n ∷ names) = (not_filtered n (once names), distinct_filtered (�
 has_at : (n : List ℕ) (names : List (List ℕ)) (i : ℕ) (rest : List (List ℕ)) → drop i names ≡ n ∷ rest → (x : List ℕ) → has_name x names ≡ false
     → bytes_eq n x ≡ false
 has_at n [] i rest is x lacks = absurd (nil_cons (sym (drop-nil i) ∙ is))
-has_at n (name ∷ names) 0 rest is x lacks =
+has_at n (name ∷ names) zero rest is x lacks =
     let (differ, others) = or_false (bytes_eq name x) (has_name x names) lacks in
     ap (λ y. bytes_eq y x) (sym (heads name n names rest is)) ∙ differ
 has_at n (name ∷ names) (suc i) rest is x lacks =
@@ -92,7 +92,7 @@ has_at n (name ∷ names) (suc i) rest is x lacks =
 
 pub new_at : (names : List (List ℕ)) (i : ℕ) (n : List ℕ) (rest : List (List ℕ)) → AreDistinct names → drop i names ≡ n ∷ rest → has_name n (take i names) ≡ false
 new_at [] i n rest distinct is = absurd (nil_cons (sym (drop-nil i) ∙ is))
-new_at (name ∷ names) 0 n rest distinct is = refl
+new_at (name ∷ names) zero n rest distinct is = refl
 new_at (name ∷ names) (suc i) n rest (lacks, distinct) is =
     rw (not_same n name (bytes_eq name n) (has_at n names i rest is name lacks) refl) (new_at names i n rest distinct is)
 
@@ -176,3 +176,6 @@ pub plays : (board : BoardValue) (loaded : Named) (events : List Event)
 plays board loaded events files names thin =
     can_all board loaded events
         (λ name has. named_thin board loaded name thin (ap (has_name name) names ∙ once_has name (filter_map mention events) has)) files
+
+pub distinct_inputs : (events : List Event) (names : List (List ℕ)) → names ≡ inputs_of events → AreDistinct names
+distinct_inputs events names is = rw is (once_distinct (filter_map mention events))

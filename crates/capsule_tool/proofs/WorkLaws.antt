@@ -137,3 +137,16 @@ lift (Err e) P Q implies holds = tt
 pub on_err : {X E : Type 0} (result : Result X E) (P : Type 0) → P → OnErr result P
 on_err (Ok x) P holds = tt
 on_err (Err e) P holds = holds
+
+pub found_after : {E : Type 0} (named' named : Option Named) (w : Work) (b : Seen) (w' : Work) (m a : Seen) (result : Result Finding E)
+    → named' ≡ named → ComesTo named w b w' m → IfOk result (MayFind named' w' m a) → IfOk result (MayFind named w b a)
+found_after named' named w b w' m a (Ok finding) same comes found = find_through named w b w' m a finding comes (rw same at found)
+found_after named' named w b w' m a (Err e) same comes found = tt
+
+pub stopped_after : {E : Type 0} (named' named : Option Named) (w : Work) (b : Seen) (w' : Work) (m a : Seen) (result : Result Finding E)
+    → named' ≡ named → ComesTo named w b w' m → OnErr result (MayStop named' w' m a) → OnErr result (MayStop named w b a)
+stopped_after named' named w b w' m a (Ok finding) same comes stops = tt
+stopped_after named' named w b w' m a (Err e) same comes stops = stop_through named w b w' m a comes (rw same at stops)
+
+pub stop_start : (named : Option Named) (w : Work) (b : Seen) → MayStop named w b b
+stop_start named w b = stop_here named w b w b (stays named w b)

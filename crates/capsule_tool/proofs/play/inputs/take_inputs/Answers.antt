@@ -1,5 +1,6 @@
 use Rattle.std.proofs.Common.{◌≡◌, ◌∷◌, ◌+◌, ◌++◌, [], ◌∙◌, map, drop, arith}
 use Rattle.cu_io.specs.Named.{LacksName}
+use Rattle.capsule_tool.specs.Readings.{seen}
 use Rattle.capsule_tool.proofs.ComingLaws.{come_on, come_found, come_stopped, come_done, item_drop, item_take, drop_past}
 use Rattle.capsule_tool.proofs.NameLaws.{new_at, lacks_loaded}
 use Rattle.capsule_tool.proofs.WorkLaws.{goes_to, goes_holds, ends_with}
@@ -20,7 +21,8 @@ returns-in-Ok-Ends-clause-found g c =
 
 pub returns-in-Err-clause-memory : goal.returns-in-Err-clause-memory
 returns-in-Err-clause-memory g c =
-    come_stopped _ _ _ _ _ _ _ _ _ c.name-item.result _ c.loop-name.invariant.comes
+    come_stopped _ _ _ _ _ _ _ _ _ c.name-item.result
+        (seen (g.I.Inputs.asked c.take_input.new.inputs) (g.I.Inputs.faults c.take_input.new.inputs) (g.I.Inputs.taken c.take_input.new.inputs)) c.loop-name.invariant.comes
         (item_drop c.args.names.now c.loop-name.name-index c.name-item.result c.loop-name-test.true c.name-item.is)
         c.loop-name.invariant.named
         (λ rest. c.in-Err.ensures.memory rest)
