@@ -28,23 +28,23 @@ played-requires-clause-events g c =
 pub returns-in-Ok-Goes-clause-found : goal.returns-in-Ok-Goes-clause-found
 returns-in-Ok-Goes-clause-found g c =
     let next : Kept (List ℕ × List ℕ) → Work = λ loaded. Finds (played c.args.board.now c.args.script.now.items loaded.items) in
-    let comes = names_come _ _ _ _ _ _ _ (c.as_slice.ensures ∙ c.in-Ok.ensures.value) (goes_to _ _ _ _ next _ _ c.in-Ok-Goes.field-0-is (c.in-Ok-Goes.ensures.found c.args.script.now.items)) in
+    let comes = names_come _ c.args.board.now c.args.script.now.items c.as_slice.result.now _ _ _ (c.as_slice.ensures ∙ c.in-Ok.ensures.value) (goes_to _ _ _ _ next _ _ c.in-Ok-Goes.field-0-is (c.in-Ok-Goes.ensures.found c.args.script.now.items)) in
     lift c.played.result _ _ (λ finding is. finds_as _ _ _ _ finding _ is (inl comes)) c.played.ensures
 
 pub returns-in-Ok-Goes-clause-memory : goal.returns-in-Ok-Goes-clause-memory
 returns-in-Ok-Goes-clause-memory g c =
     let next : Kept (List ℕ × List ℕ) → Work = λ loaded. Finds (played c.args.board.now c.args.script.now.items loaded.items) in
-    on_err c.played.result _ (stop_here _ _ _ _ _
-        (names_come _ _ _ _ _ _ _ (c.as_slice.ensures ∙ c.in-Ok.ensures.value) (goes_to _ _ _ _ next _ _ c.in-Ok-Goes.field-0-is (c.in-Ok-Goes.ensures.found c.args.script.now.items))))
+    on_err c.played.result _ (stop_here _ _ _ (next c.in-Ok-Goes.loaded) _
+        (names_come _ c.args.board.now c.args.script.now.items c.as_slice.result.now _ _ _ (c.as_slice.ensures ∙ c.in-Ok.ensures.value) (goes_to _ _ _ _ next _ _ c.in-Ok-Goes.field-0-is (c.in-Ok-Goes.ensures.found c.args.script.now.items))))
 
 pub returns-in-Ok-Ends-clause-found : goal.returns-in-Ok-Ends-clause-found
 returns-in-Ok-Ends-clause-found g c =
     let next : Kept (List ℕ × List ℕ) → Work = λ loaded. Finds (played c.args.board.now c.args.script.now.items loaded.items) in
     finds_as _ _ _ _ _ _ c.bare.ensures
-        (names_find _ _ _ _ _ _ _ (c.as_slice.ensures ∙ c.in-Ok.ensures.value) (ends_with _ _ _ _ next _ _ c.in-Ok-Ends.field-0-is (c.in-Ok-Ends.ensures.found c.args.script.now.items)))
+        (names_find _ c.args.board.now c.args.script.now.items c.as_slice.result.now _ _ _ (c.as_slice.ensures ∙ c.in-Ok.ensures.value) (ends_with _ _ _ _ next _ _ c.in-Ok-Ends.field-0-is (c.in-Ok-Ends.ensures.found c.args.script.now.items)))
 
 pub returns-clause-memory : goal.returns-clause-memory
 returns-clause-memory g c =
-    names_stop _ _ _ _ (seen (g.I.Inputs.asked c.args.inputs.now) (g.I.Inputs.faults c.args.inputs.now) (g.I.Inputs.taken c.args.inputs.now))
+    names_stop _ c.args.board.now c.args.script.now.items c.as_slice.result.now (seen (g.I.Inputs.asked c.args.inputs.now) (g.I.Inputs.faults c.args.inputs.now) (g.I.Inputs.taken c.args.inputs.now))
         (seen (g.I.Inputs.asked c.take_inputs.new.inputs) (g.I.Inputs.faults c.take_inputs.new.inputs) (g.I.Inputs.taken c.take_inputs.new.inputs))
         (c.as_slice.ensures ∙ c.in-Ok.ensures.value) (c.in-Err.ensures.memory c.args.script.now.items)
