@@ -1,5 +1,5 @@
 pub mod ComingLaws
-pub mod FormLaws
 pub mod NameLaws
 pub mod PlayLaws
+pub mod RunLaws
 pub mod WorkLaws

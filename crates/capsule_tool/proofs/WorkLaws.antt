@@ -17,7 +17,7 @@ use Rattle.capsule_tool.specs.declared.step.Step.{Step}
 use Rattle.capsule_tool.specs.declared.step.Step.TheVariants.{Goes, Ends}
 
 -- counts
-rose_on : (m n a b c : ℕ) → RoseBy m a b → RoseBy n b c → RoseBy (m + n) a c
+pub rose_on : (m n a b c : ℕ) → RoseBy m a b → RoseBy n b c → RoseBy (m + n) a c
 rose_on m n a b c first second = omega (arith, first, second)
 
 rose_still : (a : ℕ) → RoseBy 0 a a

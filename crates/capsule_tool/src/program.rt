@@ -4,7 +4,6 @@ ghost use Rattle.reset_play.specs.Told.{said_of};
 ghost use Rattle.capsule_tool.specs.Forms.{form_of};
 ghost use Rattle.capsule_tool.specs.Readings.{seen};
 ghost use Rattle.capsule_tool.specs.Runs.{AnswersAsTold, Judges, IsUsage, IsUnread, IsLong, IsTrace, Writes, WritesFront, IsAsked};
-ghost use Rattle.capsule_tool.specs.Statuses.{code_of};
 ghost use Rattle.capsule_tool.specs.Told.{work_of};
 ghost use Rattle.capsule_tool.specs.Works.{MayFind, MayStop};
 
@@ -44,16 +43,17 @@ fn find<I: Inputs>(alloc: Global, words: &[Text], inputs: &mut I) -> Result<Foun
     }
 }
 
-/// Writes what was found, and tells the status.
-fn say<O: Sink>(out: &mut O, answer: &Answer) -> Status
+/// Writes what was found, and tells the number of the status.
+fn say<O: Sink>(out: &mut O, answer: &Answer) -> u8
     ensures counts { O.faults out.old ≤ O.faults out.new }
-    ensures written { Writes answer.now (code_of result) (O.written out.old) (O.written out.new) (O.faults out.old) (O.faults out.new) }
+    ensures written { Writes answer.now result (O.written out.old) (O.written out.new) (O.faults out.old) (O.faults out.new) }
 {
-    match write_whole(out, answer.text.as_slice()) {
+    let status = match write_whole(out, answer.text.as_slice()) {
         Ok(()) => answer.status,
         Err(WriteFault::Write) => Status::Unwritten,
         Err(WriteFault::Memory) => Status::Memory,
-    }
+    };
+    status.code()
 }
 
 /// The whole program: the words are done over the inputs, and what was found is written to the sink. All
@@ -93,7 +93,7 @@ pub fn run<I: Inputs, O: Sink>(
         Ok(found) => {
             let status = say(out, &found.answer);
             Outcome {
-                status: status.code(),
+                status,
                 trace: found.trace,
             }
         }
