@@ -43,17 +43,21 @@ fn find<I: Inputs>(alloc: Global, words: &[Text], inputs: &mut I) -> Result<Foun
     }
 }
 
-/// Writes what was found, and tells the number of the status.
-fn say<O: Sink>(out: &mut O, answer: &Answer) -> u8
+/// Writes what was found, and ends the run.
+fn say<O: Sink>(out: &mut O, found: Found) -> Outcome
     ensures counts { O.faults out.old ≤ O.faults out.new }
-    ensures written { Writes answer.now result (O.written out.old) (O.written out.new) (O.faults out.old) (O.faults out.new) }
+    ensures written { Writes found.answer result.status (O.written out.old) (O.written out.new) (O.faults out.old) (O.faults out.new) }
+    ensures trace { map said_of result.trace.items ≡ found.trace }
 {
-    let status = match write_whole(out, answer.text.as_slice()) {
-        Ok(()) => answer.status,
+    let status = match write_whole(out, found.answer.text.as_slice()) {
+        Ok(()) => found.answer.status,
         Err(WriteFault::Write) => Status::Unwritten,
         Err(WriteFault::Memory) => Status::Memory,
     };
-    status.code()
+    Outcome {
+        status: status.code(),
+        trace: found.trace,
+    }
 }
 
 /// The whole program: the words are done over the inputs, and what was found is written to the sink. All
@@ -90,13 +94,7 @@ pub fn run<I: Inputs, O: Sink>(
     ensures counts { (I.faults inputs.old ≤ I.faults inputs.new) × (O.faults out.old ≤ O.faults out.new) }
 {
     match find(alloc, words, inputs) {
-        Ok(found) => {
-            let status = say(out, &found.answer);
-            Outcome {
-                status,
-                trace: found.trace,
-            }
-        }
+        Ok(found) => say(out, found),
         Err(NoMemory) => Outcome {
             status: Status::Memory.code(),
             trace: Trace::new(alloc),
