@@ -1,2 +1,5 @@
-pub mod FormLaws
+pub mod ComingLaws
+pub mod NameLaws
+pub mod PlayLaws
 pub mod RunLaws
+pub mod WorkLaws

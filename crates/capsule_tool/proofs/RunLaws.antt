@@ -1,198 +1,407 @@
 -- What follows for each status from what a run may find and write.
-use Rattle.std.proofs.Common.{◌≡◌, ◌≢◌, ℕ, ◌+◌, ◌<◌, ◌≤◌, ◌⊎◌, inl, inr, List, length, Option, None, Some, refl, sym, ◌∙◌, ap, arith, true, false, nat_lt, take}
-use Rattle.std.specs.Prelude.{IsSome, IsSomeAnd}
-use Rattle.std.specs.Io.KnownBytes.{Appends}
-use Rattle.std.proofs.lemmas.List.{take_all}
+use Rattle.std.proofs.Common.{◌≡◌, ◌≢◌, ℕ, ◌+◌, ◌<◌, ◌≤◌, ◌⊎◌, inl, inr, Bool, true, false, cond, List, [], ◌∷◌, ◌++◌, length, Option, None, Some, refl, sym, ◌∙◌, ap, arith, nat_lt, take, append_assoc}
+use Rattle.std.specs.Prelude.{IsSome, IsSomeAnd, sum_by, Result, Ok, Err}
+use Rattle.std.specs.List.{list_all}
+use Rattle.std.specs.Io.KnownBytes.{Appends, Keeps}
+use Rattle.std.proofs.lemmas.List.Sums.{sum_by-cons}
+use Rattle.bench_model.specs.Boards.{BoardValue}
 use Rattle.cu_base.specs.Causes.{Rose, RoseBy}
-use Rattle.cu_base.specs.declared.limits.TheConstants.{MAX_CAPSULE_BYTES}
 use Rattle.cu_io.specs.Streams.{AppendsFront}
 use Rattle.cu_io.specs.Named.{Named, bytes_named, IsMissing}
+use Rattle.recipe_files.specs.Boards.{board_text}
+use Rattle.recipe_files.specs.declared.faults.BadKind.{BadKind}
+use Rattle.reset_play.specs.Plays.{has_one_device, is_of_files, is_thin_on}
+use Rattle.reset_play.specs.ScriptInputs.{inputs_of}
+use Rattle.reset_play.specs.ScriptText.{Said as ScriptSaid, script_said}
+use Rattle.reset_play.specs.Told.{Said}
+use Rattle.reset_play.specs.declared.event.Event.{Event}
 use Rattle.capsule_tool.specs.Answers.{usage, later, unread, long}
 use Rattle.capsule_tool.specs.Check.{verdict_of}
-use Rattle.capsule_tool.specs.Forms.{form_of, work_of}
-use Rattle.capsule_tool.specs.Readings.{IsReading, MayHold, MayPassLimit}
-use Rattle.capsule_tool.specs.Runs.{AnswersAsTold, IsUsage, IsUnread, IsLong, IsLater, Judges}
+use Rattle.capsule_tool.specs.Files.{whole_answer, verdict_answer, bytes_answer, file_work}
+use Rattle.capsule_tool.specs.Findings.{Finding, bare}
+use Rattle.capsule_tool.specs.Forms.{form_of}
+use Rattle.capsule_tool.specs.Plays.{play_work, board_next, script_work, script_next, inputs_work, input_next}
+use Rattle.capsule_tool.specs.Readings.{Seen, MayHold, MayPassLimit, IsReading, WasRead, reading_of}
+use Rattle.capsule_tool.specs.Runs.{Writes, EndsWith, AnswersAsTold, IsUsage, IsUnread, IsLongOne, IsLong, IsTrace, IsAsked, Judges, WritesFront}
 use Rattle.capsule_tool.specs.Statuses.{code_of}
-use Rattle.capsule_tool.specs.Told.{word, told_of, whole_answer, verdict_answer, bytes_answer, file_answer, reading_of, MayFind, Writes}
+use Rattle.capsule_tool.specs.Told.{word, work_by, work_of, told}
+use Rattle.capsule_tool.specs.Works.{Work, by_reading, told_by, Comes, names_by, Took, ComesTo, EndsAt, MayFind, MayStop}
+use Rattle.capsule_tool.specs.Works.Work.{Finds, Reads}
 use Rattle.capsule_tool.specs.declared.answer.Answer.{Answer}
 use Rattle.capsule_tool.specs.declared.check.Verdict.{Verdict}
 use Rattle.capsule_tool.specs.declared.check.Verdict.TheVariants.{Whole as WholeCapsule, Refused, Trailing}
 use Rattle.capsule_tool.specs.declared.form.Form.{Form}
+use Rattle.capsule_tool.specs.declared.form.Form.TheVariants.{Check, Show, Rebuild, Make, Play, Load}
 use Rattle.capsule_tool.specs.declared.form.FileWork.{FileWork}
 use Rattle.capsule_tool.specs.declared.form.FileWork.TheVariants.{Check as CheckFile, Rebuild as RebuildFile}
 use Rattle.capsule_tool.specs.declared.input.Reading.{Reading}
 use Rattle.capsule_tool.specs.declared.input.Reading.TheVariants.{Whole, Unread, Long}
-
--- the statuses that bytes may have
-whole_code : (work : FileWork) (bytes : List ℕ) (length : ℕ) → code_of (whole_answer work bytes length).status ≡ 0
-whole_code CheckFile bytes length = refl
-whole_code RebuildFile bytes length = refl
-
-verdict_code : (work : FileWork) (bytes : List ℕ) (verdict : Verdict) → code_of (verdict_answer work bytes verdict).status < 2
-verdict_code work bytes (WholeCapsule n) = omega (arith, whole_code work bytes n)
-verdict_code work bytes (Refused refusal) = omega arith
-verdict_code work bytes (Trailing at) = omega arith
-
-bytes_code : (work : FileWork) (bytes : List ℕ) → code_of (bytes_answer work bytes).status < 2
-bytes_code work bytes = verdict_code work bytes (verdict_of bytes)
-
--- they are neither 2, 4, 5, 7 nor 8
-not_by_bytes : (work : FileWork) (bytes : List ℕ) (k : ℕ) → code_of (bytes_answer work bytes).status ≡ k → 2 ≤ k → ⊥
-not_by_bytes work bytes k same high = omega (arith, bytes_code work bytes, same, high)
-
-code_at : (a b : Answer) → a ≡ b → code_of a.status ≡ code_of b.status
-code_at a b same = ap (λ (x : Answer). code_of x.status) same
+use Rattle.capsule_tool.specs.declared.limits.TheConstants.{MAX_NAMED_BYTES}
+use Rattle.capsule_tool.specs.declared.status.Status.{Status}
+use Rattle.capsule_tool.specs.declared.status.Status.TheVariants as statuses
+use Rattle.capsule_tool.specs.declared.status.Status.TheVariants.{Done, Usage, Faulty, Unwritten, Memory, Later}
+use Rattle.capsule_tool.proofs.WorkLaws.{rose_on}
 
 -- a reading where no call failed and names are told
-within_limit : (bytes : List ℕ) → length bytes ≤ MAX_CAPSULE_BYTES → reading_of (Some bytes) ≡ Whole bytes
-within_limit bytes short = grind arith
+within : (limit : ℕ) (bytes : List ℕ) → length bytes ≤ limit → reading_of limit (Some bytes) ≡ Whole bytes
+within limit bytes short = grind arith
 
-past_limit : (bytes : List ℕ) → MAX_CAPSULE_BYTES < length bytes → reading_of (Some bytes) ≡ Long
-past_limit bytes long = grind arith
+past : (limit : ℕ) (found : Option (List ℕ)) → IsSomeAnd found (λ bytes. limit < length bytes) → reading_of limit found ≡ Long
+past limit None long = absurd long
+past limit (Some bytes) long = grind arith
 
-past_limit_of : (found : Option (List ℕ)) → IsSomeAnd found (λ bytes. MAX_CAPSULE_BYTES < length bytes) → Long ≡ reading_of found
-past_limit_of None long = absurd long
-past_limit_of (Some bytes) long = sym (past_limit bytes long)
+-- what a work finds is what it finds from where it comes to
+told_on : (named : Named) (readings : List (List ℕ)) (w w' : Work) → Comes (Some named) readings w w' → told_by named w' ≡ told_by named w
+told_on named [] w w' comes = ap (told_by named) comes
+told_on named (bytes ∷ rest) (Finds finding) w' comes = absurd comes
+told_on named (bytes ∷ rest) (Reads limit name next) w' (holds, short, comes) =
+    told_on named rest (next bytes) w' comes
+    ∙ sym (ap (by_reading name (λ bytes. told_by named (next bytes))) (ap (reading_of limit) holds ∙ within limit bytes short))
 
-reading_told : (reading : Reading) (named : Named) (name : List ℕ) (faults faults' taken taken' : ℕ)
-    → IsReading (Some named) name faults faults' taken taken' reading → ¬ Rose faults faults' → reading ≡ reading_of (bytes_named named name)
-reading_told (Whole bytes) named name f f' t t' (holds, short) calm = sym (ap reading_of holds ∙ within_limit bytes short)
-reading_told Unread named name f f' t t' (inl rose) calm = absurd (calm rose)
-reading_told Unread named name f f' t t' (inr lacks) calm = sym (ap reading_of lacks)
-reading_told Long named name f f' t t' (past, taken) calm = past_limit_of (bytes_named named name) past
+told_unread : (named : Named) (limit : ℕ) (name : List ℕ) (next : List ℕ → Work) (m a : Seen) (finding : Finding)
+    → Rose m.faults a.faults ⊎ IsMissing (Some named) name → finding ≡ bare (unread name) → ¬ Rose m.faults a.faults → finding ≡ told_by named (Reads limit name next)
+told_unread named limit name next m a finding (inl rose) is calm = absurd (calm rose)
+told_unread named limit name next m a finding (inr lacks) is calm =
+    is ∙ sym (ap (λ found. by_reading name (λ bytes. told_by named (next bytes)) (reading_of limit found)) lacks)
+
+told_end : (named : Named) (w : Work) (m a : Seen) (finding : Finding) → EndsAt (Some named) w m a finding → ¬ Rose m.faults a.faults → finding ≡ told_by named w
+told_end named (Finds it) m a finding ends calm = absurd ends
+told_end named (Reads limit name next) m a finding (Whole bytes, read, decides) calm = absurd decides
+told_end named (Reads limit name next) m a finding (Unread, read, decides) calm = told_unread named limit name next m a finding read.gives decides calm
+told_end named (Reads limit name next) m a finding (Long, read, decides) calm =
+    decides ∙ sym (ap (by_reading name (λ bytes. told_by named (next bytes))) (past limit (bytes_named named name) read.gives.0))
+
+rose_within : (b m a : ℕ) → b ≤ m → Rose m a → Rose b a
+rose_within b m a low rose = omega (arith, low, rose)
 
 -- what is found where no call failed and names are told
-found_told : (form : Option Form) (work : Option FileWork) (words : List (List ℕ)) (named : Named) (faults faults' taken taken' : ℕ) (answer : Answer)
-    → MayFind form work (Some named) words faults faults' taken taken' answer → ¬ Rose faults faults' → answer ≡ told_of form work words named
-found_told None work words named f f' t t' answer found calm = found
-found_told (Some form) (Some work) words named f f' t t' answer (reading, is, same) calm =
-    same ∙ ap (file_answer work (word words 1)) (reading_told reading named (word words 1) f f' t t' is calm)
-found_told (Some form) None words named f f' t t' answer found calm = found
+found_told : (named : Named) (w : Work) (b a : Seen) (finding : Finding) → MayFind (Some named) w b a finding → ¬ Rose b.faults a.faults → finding ≡ told_by named w
+found_told named w b a finding (inl (readings, comes, took)) calm = told_on named readings w (Finds finding) comes
+found_told named w b a finding (inr (w', m, (readings, comes, took), ends)) calm =
+    told_end named w' m a finding ends (λ rose. calm (rose_within b.faults m.faults a.faults took.later rose)) ∙ told_on named readings w w' comes
+
+finds_same : (a b : Finding) → Finds a ≡ Finds b → a ≡ b
+finds_same a b is = cc
+
+finds_reads : (finding : Finding) (limit : ℕ) (name : List ℕ) (next : List ℕ → Work) → Finds finding ≡ Reads limit name next → ⊥
+finds_reads finding limit name next is = cc
+
+-- what every end of a work has
+abbrev Ends : (Finding → Type 0) → Work → Type 0
+Ends P (Finds finding) = P finding
+Ends P (Reads limit name next) = (bytes : List ℕ) → Ends P (next bytes)
+
+end_of : (P : Finding → Type 0) (named : Option Named) (readings : List (List ℕ)) (w : Work) (finding : Finding) → Comes named readings w (Finds finding) → Ends P w → P finding
+end_of P named [] (Finds it) finding comes ends = rw (finds_same finding it comes) ends
+end_of P named [] (Reads limit name next) finding comes ends = absurd (finds_reads finding limit name next comes)
+end_of P named (bytes ∷ rest) (Finds it) finding comes ends = absurd comes
+end_of P named (bytes ∷ rest) (Reads limit name next) finding (holds, short, comes) ends = end_of P named rest (next bytes) finding comes (ends bytes)
+
+-- an end tells neither an unread input, nor words of no form, nor what only a write or want of memory tells; a trace is of
+-- work that was done
+record IsEnd (finding : Finding) : Type 0 where
+  not2 : code_of finding.answer.status ≢ 2
+  not4 : code_of finding.answer.status ≢ 4
+  not5 : code_of finding.answer.status ≢ 5
+  not6 : code_of finding.answer.status ≢ 6
+  traced : (finding.trace ≡ []) ⊎ (code_of finding.answer.status ≡ 0)
+
+bare_end : (answer : Answer) → code_of answer.status ≢ 2 → code_of answer.status ≢ 4 → code_of answer.status ≢ 5 → code_of answer.status ≢ 6 → IsEnd (bare answer)
+bare_end answer a b c d = record { not2 = a; not4 = b; not5 = c; not6 = d; traced = inl refl }
+
+verdict_end : (work : FileWork) (bytes : List ℕ) (verdict : Verdict) → IsEnd (bare (verdict_answer work bytes verdict))
+verdict_end CheckFile bytes (WholeCapsule n) = bare_end _ (omega arith) (omega arith) (omega arith) (omega arith)
+verdict_end RebuildFile bytes (WholeCapsule n) = bare_end _ (omega arith) (omega arith) (omega arith) (omega arith)
+verdict_end work bytes (Refused refusal) = bare_end _ (omega arith) (omega arith) (omega arith) (omega arith)
+verdict_end work bytes (Trailing at) = bare_end _ (omega arith) (omega arith) (omega arith) (omega arith)
+
+file_ends : (work : FileWork) (name : List ℕ) → Ends IsEnd (file_work work name)
+file_ends work name = λ bytes. verdict_end work bytes (verdict_of bytes)
+
+input_ends : (board : BoardValue) (loaded : Named) (sum : ℕ) (name : List ℕ) (rest : Named → ℕ → Work) (bytes : List ℕ) (past thin : Bool)
+    → Ends IsEnd (rest (loaded ++ (name, bytes) ∷ []) (sum + length bytes))
+    → Ends IsEnd (cond past (Finds (bare (long name))) (cond thin (rest (loaded ++ (name, bytes) ∷ []) (sum + length bytes)) (Finds (bare (later name)))))
+input_ends board loaded sum name rest bytes true thin ends = bare_end _ (omega arith) (omega arith) (omega arith) (omega arith)
+input_ends board loaded sum name rest bytes false true ends = ends
+input_ends board loaded sum name rest bytes false false ends = bare_end _ (omega arith) (omega arith) (omega arith) (omega arith)
+
+inputs_end : (board : BoardValue) (events : List Event) (loaded : Named) (sum : ℕ) (names : List (List ℕ)) → Ends IsEnd (inputs_work board events loaded sum names)
+inputs_end board events loaded sum [] = record { not2 = omega arith; not4 = omega arith; not5 = omega arith; not6 = omega arith; traced = inr refl }
+inputs_end board events loaded sum (name ∷ names) = λ bytes.
+    input_ends board loaded sum name (λ loaded' sum'. inputs_work board events loaded' sum' names) bytes (nat_lt MAX_NAMED_BYTES (sum + length bytes)) (is_thin_on board bytes)
+        (inputs_end board events (loaded ++ (name, bytes) ∷ []) (sum + length bytes) names)
+
+events_end : (board : BoardValue) (name : List ℕ) (events : List Event) (files : Bool)
+    → Ends IsEnd (cond files (inputs_work board events [] 0 (inputs_of events)) (Finds (bare (later name))))
+events_end board name events true = inputs_end board events [] 0 (inputs_of events)
+events_end board name events false = bare_end _ (omega arith) (omega arith) (omega arith) (omega arith)
+
+script_end : (board : BoardValue) (name : List ℕ) (said : ScriptSaid) → Ends IsEnd (script_next board name said)
+script_end board name (Err fault) = bare_end _ (omega arith) (omega arith) (omega arith) (omega arith)
+script_end board name (Ok events) = events_end board name events (list_all is_of_files events)
+
+one_end : (board : BoardValue) (name script : List ℕ) (one : Bool) → Ends IsEnd (cond one (script_work board script) (Finds (bare (later name))))
+one_end board name script true = λ bytes. script_end board script (script_said bytes)
+one_end board name script false = bare_end _ (omega arith) (omega arith) (omega arith) (omega arith)
+
+board_end : (name script : List ℕ) (said : Result BoardValue (BadKind × List ℕ)) → Ends IsEnd (board_next name script said)
+board_end name script (Err fault) = bare_end _ (omega arith) (omega arith) (omega arith) (omega arith)
+board_end name script (Ok board) = one_end board name script (has_one_device board)
+
+form_ends : (form : Form) (words : List (List ℕ)) → Ends IsEnd (work_by (Some form) words)
+form_ends Check words = file_ends CheckFile (word words 1)
+form_ends Show words = bare_end _ (omega arith) (omega arith) (omega arith) (omega arith)
+form_ends Rebuild words = file_ends RebuildFile (word words 1)
+form_ends Make words = bare_end _ (omega arith) (omega arith) (omega arith) (omega arith)
+form_ends Play words = λ bytes. board_end (word words 1) (word words 2) (board_text bytes)
+form_ends Load words = bare_end _ (omega arith) (omega arith) (omega arith) (omega arith)
+
+-- only the sum of the inputs ends a work with 7, after more than its limit was taken; n bytes were taken before
+abbrev Sums : ℕ → Work → Type 0
+Sums n (Finds finding) = code_of finding.answer.status ≡ 7 → MAX_NAMED_BYTES + 1 ≤ n
+Sums n (Reads limit name next) = (bytes : List ℕ) → Sums (n + length bytes) (next bytes)
+
+sum_of : (n : ℕ) (named : Option Named) (readings : List (List ℕ)) (w : Work) (finding : Finding) → Comes named readings w (Finds finding) → Sums n w
+    → code_of finding.answer.status ≡ 7 → MAX_NAMED_BYTES + 1 ≤ n + sum_by length readings
+sum_of n named [] (Finds it) finding comes sums is =
+    omega (arith, sums (sym (ap (λ (f : Finding). code_of f.answer.status) (finds_same finding it comes)) ∙ is))
+sum_of n named [] (Reads limit name next) finding comes sums is = absurd (finds_reads finding limit name next comes)
+sum_of n named (bytes ∷ rest) (Finds it) finding comes sums is = absurd comes
+sum_of n named (bytes ∷ rest) (Reads limit name next) finding (holds, short, comes) sums is =
+    omega (arith, sum_of (n + length bytes) named rest (next bytes) finding comes (sums bytes) is, sum_by-cons length bytes rest)
+
+verdict_sum : (n : ℕ) (work : FileWork) (bytes : List ℕ) (verdict : Verdict) → Sums n (Finds (bare (verdict_answer work bytes verdict)))
+verdict_sum n CheckFile bytes (WholeCapsule m) = λ is. absurd (omega (arith, is))
+verdict_sum n RebuildFile bytes (WholeCapsule m) = λ is. absurd (omega (arith, is))
+verdict_sum n work bytes (Refused refusal) = λ is. absurd (omega (arith, is))
+verdict_sum n work bytes (Trailing at) = λ is. absurd (omega (arith, is))
+
+input_sums : (n : ℕ) (board : BoardValue) (loaded : Named) (sum : ℕ) (name : List ℕ) (rest : Named → ℕ → Work) (bytes : List ℕ) (past thin : Bool)
+    → sum ≤ n → nat_lt MAX_NAMED_BYTES (sum + length bytes) ≡ past → Sums (n + length bytes) (rest (loaded ++ (name, bytes) ∷ []) (sum + length bytes))
+    → Sums (n + length bytes) (cond past (Finds (bare (long name))) (cond thin (rest (loaded ++ (name, bytes) ∷ []) (sum + length bytes)) (Finds (bare (later name)))))
+input_sums n board loaded sum name rest bytes true thin low is sums = λ seven. grind (arith, low, is)
+input_sums n board loaded sum name rest bytes false true low is sums = sums
+input_sums n board loaded sum name rest bytes false false low is sums = λ seven. absurd (omega (arith, seven))
+
+inputs_sum : (n : ℕ) (board : BoardValue) (events : List Event) (loaded : Named) (sum : ℕ) (names : List (List ℕ)) → sum ≤ n → Sums n (inputs_work board events loaded sum names)
+inputs_sum n board events loaded sum [] low = λ is. absurd (omega (arith, is))
+inputs_sum n board events loaded sum (name ∷ names) low = λ bytes.
+    input_sums n board loaded sum name (λ loaded' sum'. inputs_work board events loaded' sum' names) bytes (nat_lt MAX_NAMED_BYTES (sum + length bytes)) (is_thin_on board bytes)
+        low refl (inputs_sum (n + length bytes) board events (loaded ++ (name, bytes) ∷ []) (sum + length bytes) names (omega (arith, low)))
+
+events_sum : (n : ℕ) (board : BoardValue) (name : List ℕ) (events : List Event) (files : Bool)
+    → Sums n (cond files (inputs_work board events [] 0 (inputs_of events)) (Finds (bare (later name))))
+events_sum n board name events true = inputs_sum n board events [] 0 (inputs_of events) (omega arith)
+events_sum n board name events false = λ is. absurd (omega (arith, is))
+
+script_sum : (n : ℕ) (board : BoardValue) (name : List ℕ) (said : ScriptSaid) → Sums n (script_next board name said)
+script_sum n board name (Err fault) = λ is. absurd (omega (arith, is))
+script_sum n board name (Ok events) = events_sum n board name events (list_all is_of_files events)
+
+one_sum : (n : ℕ) (board : BoardValue) (name script : List ℕ) (one : Bool) → Sums n (cond one (script_work board script) (Finds (bare (later name))))
+one_sum n board name script true = λ bytes. script_sum (n + length bytes) board script (script_said bytes)
+one_sum n board name script false = λ is. absurd (omega (arith, is))
+
+board_sum : (n : ℕ) (name script : List ℕ) (said : Result BoardValue (BadKind × List ℕ)) → Sums n (board_next name script said)
+board_sum n name script (Err fault) = λ is. absurd (omega (arith, is))
+board_sum n name script (Ok board) = one_sum n board name script (has_one_device board)
+
+form_sums : (form : Option Form) (words : List (List ℕ)) → Sums 0 (work_by form words)
+form_sums None words = λ is. absurd (omega (arith, is))
+form_sums (Some Check) words = λ bytes. verdict_sum (0 + length bytes) CheckFile bytes (verdict_of bytes)
+form_sums (Some Show) words = λ is. absurd (omega (arith, is))
+form_sums (Some Rebuild) words = λ bytes. verdict_sum (0 + length bytes) RebuildFile bytes (verdict_of bytes)
+form_sums (Some Make) words = λ is. absurd (omega (arith, is))
+form_sums (Some Play) words = λ bytes. board_sum (0 + length bytes) (word words 1) (word words 2) (board_text bytes)
+form_sums (Some Load) words = λ is. absurd (omega (arith, is))
+
+code_small : (status : Status) → code_of status ≤ 8
+code_small Done = omega arith
+code_small statuses.Refused = omega arith
+code_small Usage = omega arith
+code_small Faulty = omega arith
+code_small statuses.Unread = omega arith
+code_small Unwritten = omega arith
+code_small Memory = omega arith
+code_small statuses.Long = omega arith
+code_small Later = omega arith
+
+-- counts
+rose_less : (m n a b : ℕ) → m ≤ n → RoseBy n a b → RoseBy m a b
+rose_less m n a b low rose = omega (arith, low, rose)
+
+-- what a run finds where its work ends
+coming_end : (form : Option Form) (words : List (List ℕ)) (named : Option Named) (readings : List (List ℕ)) (finding : Finding)
+    → Comes named readings (work_by form words) (Finds finding) → ((form ≡ None) × (finding ≡ bare usage)) ⊎ IsEnd finding
+coming_end None words named readings finding comes =
+    inl (refl, end_of (λ f. f ≡ bare usage) named readings (Finds (bare usage)) finding comes refl)
+coming_end (Some form) words named readings finding comes =
+    inr (end_of IsEnd named readings (work_by (Some form) words) finding comes (form_ends form words))
+
+code_at : (a b : Finding) → a ≡ b → code_of a.answer.status ≡ code_of b.answer.status
+code_at a b same = ap (λ (x : Finding). code_of x.answer.status) same
+
+-- where an input decides, the status is 4 or 7
+decided : (named : Option Named) (w : Work) (m a : Seen) (finding : Finding) → EndsAt named w m a finding
+    → ((code_of finding.answer.status ≡ 4) ⊎ (code_of finding.answer.status ≡ 7)) × (finding.trace ≡ [])
+decided named (Finds it) m a finding ends = absurd ends
+decided named (Reads limit name next) m a finding (Whole bytes, read, decides) = absurd decides
+decided named (Reads limit name next) m a finding (Unread, read, decides) = (inl (code_at _ _ decides), ap (λ (x : Finding). x.trace) decides)
+decided named (Reads limit name next) m a finding (Long, read, decides) = (inr (code_at _ _ decides), ap (λ (x : Finding). x.trace) decides)
+
+four_or_seven : (code k : ℕ) → (code ≡ 4) ⊎ (code ≡ 7) → code ≡ k → k ≢ 4 → k ≢ 7 → ⊥
+four_or_seven code k (inl four) is not4 not7 = not4 (sym is ∙ four)
+four_or_seven code k (inr seven) is not4 not7 = not7 (sym is ∙ seven)
+
+not_decided : (named : Option Named) (w : Work) (m a : Seen) (finding : Finding) (k : ℕ) → EndsAt named w m a finding → code_of finding.answer.status ≡ k → k ≢ 4 → k ≢ 7 → ⊥
+not_decided named w m a finding k ends is not4 not7 = four_or_seven (code_of finding.answer.status) k (decided named w m a finding ends).0 is not4 not7
 
 -- a status that tells neither a failed write nor want of memory is that of what was found, and it was written
-pub written : (answer : Answer) (status k : ℕ) (w w' : Option (List ℕ)) (g g' : ℕ) → Writes answer status w w' g g' → status ≡ k → k ≢ 5 → k ≢ 6
+written : (answer : Answer) (status k : ℕ) (w w' : Option (List ℕ)) (g g' : ℕ) → Writes answer status w w' g g' → status ≡ k → k ≢ 5 → k ≢ 6
     → (code_of answer.status ≡ k) × Appends w w' answer.text
 written answer status k w w' g g' (inl (same, appends)) is not5 not6 = (sym same ∙ is, appends)
 written answer status k w w' g g' (inr (inl (same, rose, front))) is not5 not6 = absurd (not5 (sym is ∙ same))
 written answer status k w w' g g' (inr (inr (same, front))) is not5 not6 = absurd (not6 (sym is ∙ same))
 
-pub front_written : (answer : Answer) (status : ℕ) (w w' : Option (List ℕ)) (g g' : ℕ) → Writes answer status w w' g g' → AppendsFront w w' answer.text
-front_written answer status w w' g g' (inl (same, appends)) = (length answer.text, omega arith, let whole : take (length answer.text) answer.text ≡ answer.text = take_all _ answer.text (omega arith) in rw whole appends)
-front_written answer status w w' g g' (inr (inl (same, rose, front))) = front
-front_written answer status w w' g g' (inr (inr (same, front))) = front
+appends_as : (a b : Finding) (w w' : Option (List ℕ)) → a ≡ b → Appends w w' a.answer.text → Appends w w' b.answer.text
+appends_as a b w w' same appends = rw (ap (λ (x : Finding). x.answer.text) same) at appends
 
-pub exact : (form : Option Form) (work : Option FileWork) (words : List (List ℕ)) (named : Named) (faults faults' taken taken' : ℕ) (answer : Answer) (status : ℕ) (w w' : Option (List ℕ)) (g g' : ℕ)
-    → MayFind form work (Some named) words faults faults' taken taken' answer → Writes answer status w w' g g' → ¬ Rose faults faults' → ¬ Rose g g'
-    → (status ≡ 6) ⊎ ((status ≡ code_of (told_of form work words named).status) × Appends w w' (told_of form work words named).text)
-exact form work words named f f' t t' answer status w w' g g' found (inl (same, appends)) calm quiet =
-    let told = found_told form work words named f f' t t' answer found calm in
-    inr (same ∙ code_at answer (told_of form work words named) told, rw (sym (ap (λ (x : Answer). x.text) told)) appends)
-exact form work words named f f' t t' answer status w w' g g' found (inr (inl (same, rose, front))) calm quiet = absurd (quiet rose)
-exact form work words named f f' t t' answer status w w' g g' found (inr (inr (same, front))) calm quiet = inl same
+ends_as : (finding : Finding) (status : ℕ) (w w' : Option (List ℕ)) (g g' : ℕ) → Writes finding.answer status w w' g g' → EndsWith finding status
+ends_as finding status w w' g g' (inl (same, appends)) = inl same
+ends_as finding status w w' g g' (inr (inl (same, rose, front))) = inr (inl same)
+ends_as finding status w w' g g' (inr (inr (same, front))) = inr (inr same)
 
-pub as_told : (named : Option Named) (words : List (List ℕ)) (faults faults' taken taken' : ℕ) (answer : Answer) (status : ℕ) (w w' : Option (List ℕ)) (g g' : ℕ)
-    → MayFind (form_of words) (work_of (form_of words)) named words faults faults' taken taken' answer → Writes answer status w w' g g' → ¬ Rose faults faults' → ¬ Rose g g'
-    → AnswersAsTold named words status w w'
-as_told None words f f' t t' answer status w w' g g' found writes calm quiet = tt
-as_told (Some named) words f f' t t' answer status w w' g g' found writes calm quiet =
-    exact (form_of words) (work_of (form_of words)) words named f f' t t' answer status w w' g g' found writes calm quiet
+-- the clauses of a run that found this and wrote it
+exact : (words : List (List ℕ)) (named : Named) (b a : Seen) (finding : Finding) (status : ℕ) (w w' : Option (List ℕ)) (g g' : ℕ)
+    → finding ≡ told words named → Writes finding.answer status w w' g g' → ¬ Rose g g' → AnswersAsTold (Some named) words status finding.trace w w'
+exact words named b a finding status w w' g g' is (inl (same, appends)) quiet =
+    inr (same ∙ code_at finding (told words named) is, ap (λ (x : Finding). x.trace) is, appends_as finding (told words named) w w' is appends)
+exact words named b a finding status w w' g g' is (inr (inl (same, rose, front))) quiet = absurd (quiet rose)
+exact words named b a finding status w w' g g' is (inr (inr (same, front))) quiet = inl same
 
--- 2 comes by the words
-pub usage_found : (form : Option Form) (work : Option FileWork) (words : List (List ℕ)) (named : Option Named) (faults faults' taken taken' : ℕ) (answer : Answer)
-    → MayFind form work named words faults faults' taken taken' answer → code_of answer.status ≡ 2 → (form ≡ None) × (answer ≡ usage)
-usage_found None work words named f f' t t' answer found is = (refl, found)
-usage_found (Some form) (Some work) words named f f' t t' answer (Whole bytes, is_reading, same) is = absurd (not_by_bytes work bytes 2 (sym (code_at _ _ same) ∙ is) (omega arith))
-usage_found (Some form) (Some work) words named f f' t t' answer (Unread, is_reading, same) is = absurd (omega (arith, code_at _ _ same, is))
-usage_found (Some form) (Some work) words named f f' t t' answer (Long, is_reading, same) is = absurd (omega (arith, code_at _ _ same, is))
-usage_found (Some form) None words named f f' t t' answer found is = absurd (omega (arith, code_at _ _ found, is))
+pub as_told : (named : Option Named) (words : List (List ℕ)) (b a : Seen) (finding : Finding) (status : ℕ) (w w' : Option (List ℕ)) (g g' : ℕ)
+    → MayFind named (work_of words) b a finding → Writes finding.answer status w w' g g' → ¬ Rose b.faults a.faults → ¬ Rose g g'
+    → AnswersAsTold named words status finding.trace w w'
+as_told None words b a finding status w w' g g' found writes calm quiet = tt
+as_told (Some named) words b a finding status w w' g g' found writes calm quiet =
+    exact words named b a finding status w w' g g' (found_told named (work_of words) b a finding found calm) writes quiet
 
--- 4 comes where the file could not be read
-pub unread_found : (form : Option Form) (work : Option FileWork) (words : List (List ℕ)) (named : Option Named) (faults faults' taken taken' : ℕ) (answer : Answer)
-    → MayFind form work named words faults faults' taken taken' answer → code_of answer.status ≡ 4 → IsSome work × (Rose faults faults' ⊎ IsMissing named (word words 1)) × (answer ≡ unread (word words 1))
-unread_found None work words named f f' t t' answer found is = absurd (omega (arith, code_at _ _ found, is))
-unread_found (Some form) (Some work) words named f f' t t' answer (Whole bytes, is_reading, same) is = absurd (not_by_bytes work bytes 4 (sym (code_at _ _ same) ∙ is) (omega arith))
-unread_found (Some form) (Some work) words named f f' t t' answer (Unread, is_reading, same) is = (refl, is_reading, same)
-unread_found (Some form) (Some work) words named f f' t t' answer (Long, is_reading, same) is = absurd (omega (arith, code_at _ _ same, is))
-unread_found (Some form) None words named f f' t t' answer found is = absurd (omega (arith, code_at _ _ found, is))
+pub judged_run : (named : Option Named) (w0 : Work) (b a : Seen) (finding : Finding) (status k : ℕ) (w w' : Option (List ℕ)) (g g' : ℕ)
+    → MayFind named w0 b a finding → Writes finding.answer status w w' g g' → status ≡ k → k ≢ 4 → k ≢ 5 → k ≢ 6 → k ≢ 7
+    → Judges w0 named k finding.trace w w'
+judged_run named w0 b a finding status k w w' g g' (inl (readings, comes, took)) writes is not4 not5 not6 not7 =
+    let (code, appends) = written finding.answer status k w w' g g' writes is not5 not6 in
+    (finding, readings, comes, code, refl, appends)
+judged_run named w0 b a finding status k w w' g g' (inr (work, m, comes, ends)) writes is not4 not5 not6 not7 =
+    let (code, appends) = written finding.answer status k w w' g g' writes is not5 not6 in
+    absurd (not_decided named work m a finding k ends code not4 not7)
 
--- 7 comes where the file is too long
-pub long_found : (form : Option Form) (work : Option FileWork) (words : List (List ℕ)) (named : Option Named) (faults faults' taken taken' : ℕ) (answer : Answer)
-    → MayFind form work named words faults faults' taken taken' answer → code_of answer.status ≡ 7 → IsSome work × MayPassLimit named (word words 1) × RoseBy (MAX_CAPSULE_BYTES + 1) taken taken' × (answer ≡ long (word words 1))
-long_found None work words named f f' t t' answer found is = absurd (omega (arith, code_at _ _ found, is))
-long_found (Some form) (Some work) words named f f' t t' answer (Whole bytes, is_reading, same) is = absurd (not_by_bytes work bytes 7 (sym (code_at _ _ same) ∙ is) (omega arith))
-long_found (Some form) (Some work) words named f f' t t' answer (Unread, is_reading, same) is = absurd (omega (arith, code_at _ _ same, is))
-long_found (Some form) (Some work) words named f f' t t' answer (Long, is_reading, same) is = (refl, is_reading.0, is_reading.1, same)
-long_found (Some form) None words named f f' t t' answer found is = absurd (omega (arith, code_at _ _ found, is))
+usage_end : (form : Option Form) (finding : Finding) (w w' : Option (List ℕ)) → ((form ≡ None) × (finding ≡ bare usage)) ⊎ IsEnd finding
+    → code_of finding.answer.status ≡ 2 → Appends w w' finding.answer.text → IsUsage form w w'
+usage_end form finding w w' (inl (none, is)) code appends = (none, appends_as finding (bare usage) w w' is appends)
+usage_end form finding w w' (inr end) code appends = absurd (end.not2 code)
 
--- 8 comes where the form is still to be built
-pub later_found : (form : Option Form) (work : Option FileWork) (words : List (List ℕ)) (named : Option Named) (faults faults' taken taken' : ℕ) (answer : Answer)
-    → MayFind form work named words faults faults' taken taken' answer → code_of answer.status ≡ 8 → (form ≢ None) × (work ≡ None) × (answer ≡ later (word words 0))
-later_found None work words named f f' t t' answer found is = absurd (omega (arith, code_at _ _ found, is))
-later_found (Some form) (Some work) words named f f' t t' answer (Whole bytes, is_reading, same) is = absurd (not_by_bytes work bytes 8 (sym (code_at _ _ same) ∙ is) (omega arith))
-later_found (Some form) (Some work) words named f f' t t' answer (Unread, is_reading, same) is = absurd (omega (arith, code_at _ _ same, is))
-later_found (Some form) (Some work) words named f f' t t' answer (Long, is_reading, same) is = absurd (omega (arith, code_at _ _ same, is))
-later_found (Some form) None words named f f' t t' answer found is = ((λ h. cc), refl, found)
+pub usage_run : (named : Option Named) (words : List (List ℕ)) (b a : Seen) (finding : Finding) (status : ℕ) (w w' : Option (List ℕ)) (g g' : ℕ)
+    → MayFind named (work_of words) b a finding → Writes finding.answer status w w' g g' → status ≡ 2 → IsUsage (form_of words) w w'
+usage_run named words b a finding status w w' g g' (inl (readings, comes, took)) writes is =
+    let (code, appends) = written finding.answer status 2 w w' g g' writes is (omega arith) (omega arith) in
+    usage_end (form_of words) finding w w' (coming_end (form_of words) words named readings finding comes) code appends
+usage_run named words b a finding status w w' g g' (inr (work, m, comes, ends)) writes is =
+    let (code, appends) = written finding.answer status 2 w w' g g' writes is (omega arith) (omega arith) in
+    absurd (not_decided named work m a finding 2 ends code (omega arith) (omega arith))
 
--- no answer has the status of a failed write
-pub unwritten_found : (form : Option Form) (work : Option FileWork) (words : List (List ℕ)) (named : Option Named) (faults faults' taken taken' : ℕ) (answer : Answer)
-    → MayFind form work named words faults faults' taken taken' answer → code_of answer.status ≡ 5 → ⊥
-unwritten_found None work words named f f' t t' answer found is = (omega (arith, code_at _ _ found, is))
-unwritten_found (Some form) (Some work) words named f f' t t' answer (Whole bytes, is_reading, same) is = (not_by_bytes work bytes 5 (sym (code_at _ _ same) ∙ is) (omega arith))
-unwritten_found (Some form) (Some work) words named f f' t t' answer (Unread, is_reading, same) is = (omega (arith, code_at _ _ same, is))
-unwritten_found (Some form) (Some work) words named f f' t t' answer (Long, is_reading, same) is = (omega (arith, code_at _ _ same, is))
-unwritten_found (Some form) None words named f f' t t' answer found is = (omega (arith, code_at _ _ found, is))
+-- an end with a status that only a reading, a write or want of memory gives
+no_end : (form : Option Form) (finding : Finding) (k : ℕ) → ((form ≡ None) × (finding ≡ bare usage)) ⊎ IsEnd finding
+    → code_of finding.answer.status ≡ k → (k ≡ 4) ⊎ (k ≡ 5) → ⊥
+no_end form finding k (inl (none, is)) code (inl four) = omega (arith, code_at finding (bare usage) is, code, four)
+no_end form finding k (inl (none, is)) code (inr five) = omega (arith, code_at finding (bare usage) is, code, five)
+no_end form finding k (inr end) code (inl four) = end.not4 (code ∙ four)
+no_end form finding k (inr end) code (inr five) = end.not5 (code ∙ five)
 
--- 0 and 1 come by the bytes alone
-pub judged_run : (form : Option Form) (work : Option FileWork) (words : List (List ℕ)) (named : Option Named) (faults faults' taken taken' : ℕ) (answer : Answer) (status k : ℕ) (w w' : Option (List ℕ)) (g g' : ℕ)
-    → MayFind form work named words faults faults' taken taken' answer → Writes answer status w w' g g' → status ≡ k → k < 2 → Judges work words named k w w'
-judged_run None work words named f f' t t' answer status k w w' g g' found writes is small =
-    let (code, appends) = written answer status k w w' g g' writes is (omega arith) (omega arith) in
-    absurd (omega (arith, code_at _ _ found, code))
-judged_run (Some form) (Some work) words named f f' t t' answer status k w w' g g' (Whole bytes, is_reading, same) writes is small =
-    let (code, appends) = written answer status k w w' g g' writes is (omega arith) (omega arith) in
-    (bytes, is_reading.0, is_reading.1, sym (code_at _ _ same) ∙ code, rw (sym (ap (λ (x : Answer). x.text) same)) appends)
-judged_run (Some form) (Some work) words named f f' t t' answer status k w w' g g' (Unread, is_reading, same) writes is small =
-    let (code, appends) = written answer status k w w' g g' writes is (omega arith) (omega arith) in
-    absurd (omega (arith, code_at _ _ same, code))
-judged_run (Some form) (Some work) words named f f' t t' answer status k w w' g g' (Long, is_reading, same) writes is small =
-    let (code, appends) = written answer status k w w' g g' writes is (omega arith) (omega arith) in
-    absurd (omega (arith, code_at _ _ same, code))
-judged_run (Some form) None words named f f' t t' answer status k w w' g g' found writes is small =
-    let (code, appends) = written answer status k w w' g g' writes is (omega arith) (omega arith) in
-    absurd (omega (arith, code_at _ _ found, code))
+cause_within : (b m a : Seen) (Missing : Type 0) → b.faults ≤ m.faults → Rose m.faults a.faults ⊎ Missing → Rose b.faults a.faults ⊎ Missing
+cause_within b m a Missing low (inl rose) = inl (rose_within b.faults m.faults a.faults low rose)
+cause_within b m a Missing low (inr missing) = inr missing
 
--- the clauses of the run, for what was found and how it was written
-pub usage_run : (form : Option Form) (work : Option FileWork) (words : List (List ℕ)) (named : Option Named) (faults faults' taken taken' : ℕ) (answer : Answer) (status : ℕ) (w w' : Option (List ℕ)) (g g' : ℕ)
-    → MayFind form work named words faults faults' taken taken' answer → Writes answer status w w' g g' → status ≡ 2 → IsUsage form w w'
-usage_run form work words named f f' t t' answer status w w' g g' found writes is =
-    let (code, appends) = written answer status 2 w w' g g' writes is (omega arith) (omega arith) in
-    let (form_is, same) = usage_found form work words named f f' t t' answer found code in
-    (form_is, rw (sym (ap (λ (x : Answer). x.text) same)) appends)
+unread_end : (named : Option Named) (w0 work : Work) (b m a : Seen) (finding : Finding) (w w' : Option (List ℕ))
+    → ComesTo named w0 b work m → EndsAt named work m a finding → code_of finding.answer.status ≡ 4 → Appends w w' finding.answer.text → IsUnread w0 named b a w w'
+unread_end named w0 (Finds it) b m a finding w w' comes ends code appends = absurd ends
+unread_end named w0 (Reads limit name next) b m a finding w w' comes (Whole bytes, read, decides) code appends = absurd decides
+unread_end named w0 (Reads limit name next) b m a finding w w' (readings, comes, took) (Unread, read, decides) code appends =
+    (limit, name, next, readings, comes, cause_within b m a (IsMissing named name) took.later read.gives, appends_as finding (bare (unread name)) w w' decides appends)
+unread_end named w0 (Reads limit name next) b m a finding w w' comes (Long, read, decides) code appends =
+    absurd (omega (arith, code_at finding (bare (long name)) decides, code))
 
-pub unread_run : (form : Option Form) (work : Option FileWork) (words : List (List ℕ)) (named : Option Named) (faults faults' taken taken' : ℕ) (answer : Answer) (status : ℕ) (w w' : Option (List ℕ)) (g g' : ℕ)
-    → MayFind form work named words faults faults' taken taken' answer → Writes answer status w w' g g' → status ≡ 4 → IsUnread work words named faults faults' w w'
-unread_run form work words named f f' t t' answer status w w' g g' found writes is =
-    let (code, appends) = written answer status 4 w w' g g' writes is (omega arith) (omega arith) in
-    let (work_is, cause, same) = unread_found form work words named f f' t t' answer found code in
-    (work_is, cause, rw (sym (ap (λ (x : Answer). x.text) same)) appends)
+pub unread_run : (named : Option Named) (words : List (List ℕ)) (b a : Seen) (finding : Finding) (status : ℕ) (w w' : Option (List ℕ)) (g g' : ℕ)
+    → MayFind named (work_of words) b a finding → Writes finding.answer status w w' g g' → status ≡ 4 → IsUnread (work_of words) named b a w w'
+unread_run named words b a finding status w w' g g' (inl (readings, comes, took)) writes is =
+    let (code, appends) = written finding.answer status 4 w w' g g' writes is (omega arith) (omega arith) in
+    absurd (no_end (form_of words) finding 4 (coming_end (form_of words) words named readings finding comes) code (inl refl))
+unread_run named words b a finding status w w' g g' (inr (work, m, comes, ends)) writes is =
+    let (code, appends) = written finding.answer status 4 w w' g g' writes is (omega arith) (omega arith) in
+    unread_end named (work_of words) work b m a finding w w' comes ends code appends
 
-pub long_run : (form : Option Form) (work : Option FileWork) (words : List (List ℕ)) (named : Option Named) (faults faults' taken taken' : ℕ) (answer : Answer) (status : ℕ) (w w' : Option (List ℕ)) (g g' : ℕ)
-    → MayFind form work named words faults faults' taken taken' answer → Writes answer status w w' g g' → status ≡ 7 → IsLong work words named taken taken' w w'
-long_run form work words named f f' t t' answer status w w' g g' found writes is =
-    let (code, appends) = written answer status 7 w w' g g' writes is (omega arith) (omega arith) in
-    let (work_is, past, rose, same) = long_found form work words named f f' t t' answer found code in
-    (work_is, past, rose, rw (sym (ap (λ (x : Answer). x.text) same)) appends)
+long_end : (named : Option Named) (w0 work : Work) (b m a : Seen) (finding : Finding) (w w' : Option (List ℕ))
+    → ComesTo named w0 b work m → EndsAt named work m a finding → code_of finding.answer.status ≡ 7 → Appends w w' finding.answer.text → IsLongOne w0 named b a w w'
+long_end named w0 (Finds it) b m a finding w w' comes ends code appends = absurd ends
+long_end named w0 (Reads limit name next) b m a finding w w' comes (Whole bytes, read, decides) code appends = absurd decides
+long_end named w0 (Reads limit name next) b m a finding w w' comes (Unread, read, decides) code appends =
+    absurd (omega (arith, code_at finding (bare (unread name)) decides, code))
+long_end named w0 (Reads limit name next) b m a finding w w' (readings, comes, took) (Long, read, decides) code appends =
+    ( limit, name, next, readings, comes, read.gives.0
+    , rose_less (limit + 1) (sum_by length readings + (limit + 1)) b.taken a.taken (omega arith) (rose_on (sum_by length readings) (limit + 1) b.taken m.taken a.taken took.taken read.gives.1)
+    , appends_as finding (bare (long name)) w w' decides appends
+    )
 
-pub later_run : (form : Option Form) (words : List (List ℕ)) (named : Option Named) (faults faults' taken taken' : ℕ) (answer : Answer) (status : ℕ) (w w' : Option (List ℕ)) (g g' : ℕ)
-    → MayFind form (work_of form) named words faults faults' taken taken' answer → Writes answer status w w' g g' → status ≡ 8 → IsLater form words w w'
-later_run form words named f f' t t' answer status w w' g g' found writes is =
-    let (code, appends) = written answer status 8 w w' g g' writes is (omega arith) (omega arith) in
-    let (form_is, work_is, same) = later_found form (work_of form) words named f f' t t' answer found code in
-    (form_is, work_is, rw (sym (ap (λ (x : Answer). x.text) same)) appends)
+pub long_run : (named : Option Named) (words : List (List ℕ)) (b a : Seen) (finding : Finding) (status : ℕ) (w w' : Option (List ℕ)) (g g' : ℕ)
+    → MayFind named (work_of words) b a finding → Writes finding.answer status w w' g g' → status ≡ 7 → IsLong (work_of words) named b a finding.trace w w'
+long_run named words b a finding status w w' g g' (inl (readings, comes, took)) writes is =
+    let (code, appends) = written finding.answer status 7 w w' g g' writes is (omega arith) (omega arith) in
+    inr ((finding, readings, comes, code, refl, appends)
+        , rose_less (MAX_NAMED_BYTES + 1) (sum_by length readings) b.taken a.taken (omega (arith, sum_of 0 named readings (work_of words) finding comes (form_sums (form_of words) words) code)) took.taken)
+long_run named words b a finding status w w' g g' (inr (work, m, comes, ends)) writes is =
+    let (code, appends) = written finding.answer status 7 w w' g g' writes is (omega arith) (omega arith) in
+    inl (long_end named (work_of words) work b m a finding w w' comes ends code appends)
 
-pub unwritten_run : (form : Option Form) (work : Option FileWork) (words : List (List ℕ)) (named : Option Named) (faults faults' taken taken' : ℕ) (answer : Answer) (status : ℕ) (w w' : Option (List ℕ)) (g g' : ℕ)
-    → MayFind form work named words faults faults' taken taken' answer → Writes answer status w w' g g' → status ≡ 5 → Rose g g'
-unwritten_run form work words named f f' t t' answer status w w' g g' found (inl (same, appends)) is =
-    absurd (unwritten_found form work words named f f' t t' answer found (sym same ∙ is))
-unwritten_run form work words named f f' t t' answer status w w' g g' found (inr (inl (same, rose, front))) is = rose
-unwritten_run form work words named f f' t t' answer status w w' g g' found (inr (inr (same, front))) is = absurd (omega (arith, same, is))
+pub unwritten_run : (named : Option Named) (words : List (List ℕ)) (b a : Seen) (finding : Finding) (status : ℕ) (w w' : Option (List ℕ)) (g g' : ℕ)
+    → MayFind named (work_of words) b a finding → Writes finding.answer status w w' g g' → status ≡ 5 → Rose g g'
+unwritten_run named words b a finding status w w' g g' (inl (readings, comes, took)) (inl (same, appends)) is =
+    absurd (no_end (form_of words) finding 5 (coming_end (form_of words) words named readings finding comes) (sym same ∙ is) (inr refl))
+unwritten_run named words b a finding status w w' g g' (inr (work, m, comes, ends)) (inl (same, appends)) is =
+    absurd (not_decided named work m a finding 5 ends (sym same ∙ is) (omega arith) (omega arith))
+unwritten_run named words b a finding status w w' g g' found (inr (inl (same, rose, front))) is = rose
+unwritten_run named words b a finding status w w' g g' found (inr (inr (same, front))) is = absurd (omega (arith, same, is))
+
+pub small_run : (finding : Finding) (status : ℕ) (w w' : Option (List ℕ)) (g g' : ℕ) → Writes finding.answer status w w' g g' → status ≤ 8
+small_run finding status w w' g g' (inl (same, appends)) = omega (arith, same, code_small finding.answer.status)
+small_run finding status w w' g g' (inr (inl (same, rose, front))) = omega (arith, same)
+small_run finding status w w' g g' (inr (inr (same, front))) = omega (arith, same)
+
+-- a trace is empty but for work that was done
+traced_end : (form : Option Form) (finding : Finding) → ((form ≡ None) × (finding ≡ bare usage)) ⊎ IsEnd finding → (finding.trace ≡ []) ⊎ (code_of finding.answer.status ≡ 0)
+traced_end form finding (inl (none, is)) = inl (ap (λ (x : Finding). x.trace) is)
+traced_end form finding (inr end) = end.traced
+
+traced : (named : Option Named) (words : List (List ℕ)) (b a : Seen) (finding : Finding) → MayFind named (work_of words) b a finding
+    → (finding.trace ≡ []) ⊎ (code_of finding.answer.status ≡ 0)
+traced named words b a finding (inl (readings, comes, took)) = traced_end (form_of words) finding (coming_end (form_of words) words named readings finding comes)
+traced named words b a finding (inr (work, m, comes, ends)) = inl (decided named work m a finding ends).1
+
+told_trace : (finding : Finding) (status : ℕ) (w w' : Option (List ℕ)) (g g' : ℕ) → (finding.trace ≡ []) ⊎ (code_of finding.answer.status ≡ 0)
+    → Writes finding.answer status w w' g g' → (finding.trace ≡ []) ⊎ ((status ≡ 0) ⊎ ((status ≡ 5) ⊎ (status ≡ 6)))
+told_trace finding status w w' g g' (inl none) writes = inl none
+told_trace finding status w w' g g' (inr zero_code) (inl (same, appends)) = inr (inl (same ∙ zero_code))
+told_trace finding status w w' g g' (inr zero_code) (inr (inl (same, rose, front))) = inr (inr (inl same))
+told_trace finding status w w' g g' (inr zero_code) (inr (inr (same, front))) = inr (inr (inr same))
+
+pub trace_run : (named : Option Named) (words : List (List ℕ)) (b a : Seen) (finding : Finding) (status : ℕ) (w w' : Option (List ℕ)) (g g' : ℕ)
+    → MayFind named (work_of words) b a finding → Writes finding.answer status w w' g g' → IsTrace (work_of words) named b a status finding.trace
+trace_run named words b a finding status w w' g g' found writes =
+    (inl (finding, found, refl, ends_as finding status w w' g g' writes), told_trace finding status w w' g g' (traced named words b a finding found) writes)
+
+pub asked_run : (named : Option Named) (w0 : Work) (b a : Seen) (finding : Finding) (status : ℕ) (w w' : Option (List ℕ)) (g g' : ℕ)
+    → MayFind named w0 b a finding → Writes finding.answer status w w' g g' → IsAsked w0 named b a status
+asked_run named w0 b a finding status w w' g g' found writes = inl (finding, found, ends_as finding status w w' g g' writes)
+
+pub prefix_run : (named : Option Named) (w0 : Work) (b a : Seen) (finding : Finding) (status : ℕ) (w w' : Option (List ℕ)) (g g' : ℕ)
+    → MayFind named w0 b a finding → Writes finding.answer status w w' g g' → WritesFront w0 named b a status w w' g g'
+prefix_run named w0 b a finding status w w' g g' found writes = inl (finding, found, writes)

@@ -5,8 +5,6 @@ use Rattle.std.specs.List.{list_all}
 use Rattle.std.specs.Str.{bytes_eq}
 use Rattle.capsule_tool.specs.declared.form.Form.{Form}
 use Rattle.capsule_tool.specs.declared.form.Form.TheVariants.{Check, Show, Rebuild, Make, Play, Load}
-use Rattle.capsule_tool.specs.declared.form.FileWork.{FileWork}
-use Rattle.capsule_tool.specs.declared.form.FileWork.TheVariants.{Check as CheckFile, Rebuild as RebuildFile}
 
 -- a number from 1 to 1000 in decimal: one of 1 to 999 has one to three digits, the first not 0
 abbrev pub is_load_count : List ℕ → Bool
@@ -25,20 +23,8 @@ form_of_one command operand =
     else if bytes_eq command (codes "load") && is_load_count operand then Some Load
     else None
 
+-- the form of the words, None where they have none of the six
 abbrev pub form_of : List (List ℕ) → Option Form
 form_of (command ∷ operand ∷ []) = form_of_one command operand
 form_of (command ∷ board ∷ script ∷ []) = if bytes_eq command (codes "play") then Some Play else None
 form_of words = None
-
--- the work on the one file that the words name, of the forms that are built
-abbrev pub file_work_of : Form → Option FileWork
-file_work_of Check = Some CheckFile
-file_work_of Show = None
-file_work_of Rebuild = Some RebuildFile
-file_work_of Make = None
-file_work_of Play = None
-file_work_of Load = None
-
-abbrev pub work_of : Option Form → Option FileWork
-work_of None = None
-work_of (Some form) = file_work_of form

@@ -1,7 +1,13 @@
 pub mod Answers
 pub mod Check
+pub mod Files
+pub mod Findings
 pub mod Forms
+pub mod Kinds
+pub mod Plays
 pub mod Readings
 pub mod Runs
 pub mod Statuses
+pub mod Steps
 pub mod Told
+pub mod Works

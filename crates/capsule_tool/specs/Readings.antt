@@ -1,23 +1,43 @@
--- What may come of reading an input, by what the inputs tell and by their counts before and after.
-use Rattle.std.specs.Prelude.{◌≡◌, ℕ, ◌+◌, ◌≤◌, ◌<◌, ◌⊎◌, List, length, Option, None, Some, IsSomeAnd, ⊤}
+-- What may come of reading an input, by what the inputs tell and by what was seen of them before and after.
+use Rattle.std.specs.Prelude.{◌≡◌, ℕ, ◌+◌, ◌≤◌, ◌<◌, ◌⊎◌, nat_lt, List, [], ◌∷◌, ◌++◌, length, Option, None, Some, IsSomeAnd, ⊤, if◌then◌else◌}
 use Rattle.cu_base.specs.Causes.{Rose, RoseBy}
-use Rattle.cu_base.specs.declared.limits.TheConstants.{MAX_CAPSULE_BYTES}
-use Rattle.cu_io.specs.Named.{Named, bytes_named, IsMissing}
+use Rattle.cu_io.specs.Named.{Named, IsMissing, bytes_named}
 use Rattle.capsule_tool.specs.declared.input.Reading.{Reading}
 use Rattle.capsule_tool.specs.declared.input.Reading.TheVariants.{Whole, Unread, Long}
+
+-- what is seen of the inputs at a moment: the names asked for, and the counts of faults and of bytes taken
+pub record Seen : Type 0 where
+  pub asked : List (List ℕ)
+  pub faults : ℕ
+  pub taken : ℕ
+
+abbrev pub seen : List (List ℕ) → ℕ → ℕ → Seen
+seen asked faults taken = record { asked = asked; faults = faults; taken = taken }
 
 -- the input may hold these bytes: it does, where names are told
 abbrev pub MayHold : Option Named → List ℕ → List ℕ → Type 0
 MayHold None name bytes = ⊤
 MayHold (Some named) name bytes = bytes_named named name ≡ Some bytes
 
--- the input may be longer than a capsule: it is, where names are told
-abbrev pub MayPassLimit : Option Named → List ℕ → Type 0
-MayPassLimit None name = ⊤
-MayPassLimit (Some named) name = IsSomeAnd (bytes_named named name) (λ bytes. MAX_CAPSULE_BYTES < length bytes)
+-- the input may be longer than its limit: it is, where names are told
+abbrev pub MayPassLimit : Option Named → ℕ → List ℕ → Type 0
+MayPassLimit None limit name = ⊤
+MayPassLimit (Some named) limit name = IsSomeAnd (bytes_named named name) (λ bytes. limit < length bytes)
 
--- faults and taken are counts of the inputs, before and after
-abbrev pub IsReading : Option Named → List ℕ → ℕ → ℕ → ℕ → ℕ → Reading → Type 0
-IsReading named name faults faults' taken taken' (Whole bytes) = MayHold named name bytes × (length bytes ≤ MAX_CAPSULE_BYTES)
-IsReading named name faults faults' taken taken' Unread = Rose faults faults' ⊎ IsMissing named name
-IsReading named name faults faults' taken taken' Long = MayPassLimit named name × RoseBy (MAX_CAPSULE_BYTES + 1) taken taken'
+-- all bytes came and were counted; or a fault was counted, or the name is missing; or one byte more than the limit came
+abbrev pub IsReading : Option Named → ℕ → List ℕ → Seen → Seen → Reading → Type 0
+IsReading named limit name before after (Whole bytes) =
+    MayHold named name bytes × (length bytes ≤ limit) × RoseBy (length bytes) before.taken after.taken
+IsReading named limit name before after Unread = Rose before.faults after.faults ⊎ IsMissing named name
+IsReading named limit name before after Long = MayPassLimit named limit name × RoseBy (limit + 1) before.taken after.taken
+
+-- the name was asked for once, no fault was taken back, and this came of it
+pub record WasRead (named : Option Named) (limit : ℕ) (name : List ℕ) (before after : Seen) (reading : Reading) : Type 0 where
+  pub asked : after.asked ≡ before.asked ++ name ∷ []
+  pub later : before.faults ≤ after.faults
+  pub gives : IsReading named limit name before after reading
+
+-- what reading gives where inputs are told and no call fails
+abbrev pub reading_of : ℕ → Option (List ℕ) → Reading
+reading_of limit None = Unread
+reading_of limit (Some bytes) = if nat_lt limit (length bytes) then Long else Whole bytes

@@ -1,11 +1,11 @@
 ghost use Rattle.std.specs.Prelude.{◌≡◌, IfOk};
-ghost use Rattle.capsule_tool.specs.Answers.{usage, done, refused, later, unread, long};
+ghost use Rattle.capsule_tool.specs.Answers.{usage, done, refused, faulty_board, faulty_script, later, unread, long};
 
 use crate::status::Status;
 use cu_base::{Blob, NoMemory};
 use std::alloc::Global;
 
-/// What a run has found, before any of it is written.
+/// A status, and the text that is written with it.
 #[derive(Drop)]
 pub struct Answer {
     pub status: Status,
@@ -46,6 +46,26 @@ impl Answer {
         }
     }
 
+    /// The board is refused, for a kind of fault at a key.
+    pub fn faulty_board(alloc: Global, kind: &str, key: &str) -> Result<Answer, NoMemory>
+        ensures { IfOk result (λ answer. answer ≡ faulty_board kind.now key.now) }
+    {
+        match format!(in alloc; "board {kind} {key}\n") {
+            Ok(text) => Answer::new(alloc, Status::Faulty, text.as_str()),
+            Err(_) => Err(NoMemory),
+        }
+    }
+
+    /// The script is refused at a line, for a kind of fault.
+    pub fn faulty_script(alloc: Global, line: u32, kind: &str) -> Result<Answer, NoMemory>
+        ensures { IfOk result (λ answer. answer ≡ faulty_script line kind.now) }
+    {
+        match format!(in alloc; "script {line} {kind}\n") {
+            Ok(text) => Answer::new(alloc, Status::Faulty, text.as_str()),
+            Err(_) => Err(NoMemory),
+        }
+    }
+
     /// What is asked for is not built yet.
     pub fn later(alloc: Global, what: &str) -> Result<Answer, NoMemory>
         ensures { IfOk result (λ answer. answer ≡ later what.now) }
@@ -66,7 +86,7 @@ impl Answer {
         }
     }
 
-    /// The input of this name is longer than its limit.
+    /// The input of this name passes a limit.
     pub fn long(alloc: Global, name: &str) -> Result<Answer, NoMemory>
         ensures { IfOk result (λ answer. answer ≡ long name.now) }
     {

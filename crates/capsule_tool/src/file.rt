@@ -1,17 +1,18 @@
 //! The work on the one file that the words name.
-ghost use Rattle.std.specs.Prelude.{◌≡◌, ◌≤◌, ◌⊎◌, ◌∷◌, [], ◌++◌, None, IfOk, OnOk, OnErr};
+ghost use Rattle.std.specs.Prelude.{◌≡◌, ◌≤◌, None, IfOk, OnErr};
 ghost use Rattle.capsule_grammar.specs.Refusals.{refusal};
-ghost use Rattle.capsule_tool.specs.declared.input.Reading.{Reading};
-ghost use Rattle.capsule_tool.specs.Readings.{IsReading};
-ghost use Rattle.capsule_tool.specs.Told.{file_answer, bytes_answer, whole_answer, rebuilt};
+ghost use Rattle.capsule_tool.specs.Files.{file_work, bytes_answer, whole_answer, rebuilt};
+ghost use Rattle.capsule_tool.specs.Readings.{seen};
+ghost use Rattle.capsule_tool.specs.Works.{MayFind, MayStop};
 
 use crate::answer::Answer;
 use crate::check::{Verdict, judge, printed};
 use crate::form::FileWork;
-use crate::input::{Reading, read_input};
+use crate::found::Found;
 use crate::status::Status;
+use crate::step::{Step, take_bytes};
 use capsule_grammar::DecodeFault;
-use cu_base::{NoMemory, Text};
+use cu_base::{MAX_CAPSULE_BYTES, NoMemory, Text};
 use cu_io::Inputs;
 use std::alloc::Global;
 
@@ -21,32 +22,19 @@ pub fn on_file<I: Inputs>(
     work: FileWork,
     name: &Text,
     inputs: &mut I,
-) -> Result<Answer, NoMemory>
-    ensures found { IfOk result (λ answer. (reading : Reading) × IsReading (I.named inputs.old) name.now (I.faults inputs.old) (I.faults inputs.new) (I.taken inputs.old) (I.taken inputs.new) reading × (answer ≡ file_answer work name.now reading)) }
-    ensures asked { OnOk result (I.asked inputs.new ≡ I.asked inputs.old ++ name.now ∷ []) }
-    ensures memory { OnErr result ((I.asked inputs.new ≡ I.asked inputs.old) ⊎ (I.asked inputs.new ≡ I.asked inputs.old ++ name.now ∷ [])) }
+) -> Result<Found, NoMemory>
+    ensures found { IfOk result (MayFind (I.named inputs.old) (file_work work name.now) (seen (I.asked inputs.old) (I.faults inputs.old) (I.taken inputs.old)) (seen (I.asked inputs.new) (I.faults inputs.new) (I.taken inputs.new))) }
+    ensures memory { OnErr result (MayStop (I.named inputs.old) (file_work work name.now) (seen (I.asked inputs.old) (I.faults inputs.old) (I.taken inputs.old)) (seen (I.asked inputs.new) (I.faults inputs.new) (I.taken inputs.new))) }
     ensures named { I.named inputs.new ≡ I.named inputs.old }
     ensures later { I.faults inputs.old ≤ I.faults inputs.new }
 {
-    match read_input(alloc, inputs, name) {
-        Ok(reading) => found_by(alloc, work, name.as_str(), &reading),
+    match take_bytes(alloc, name, MAX_CAPSULE_BYTES, inputs) {
+        Ok(Step::Goes(bytes)) => {
+            let answer = on_bytes(alloc, work, bytes.as_slice())?;
+            Ok(Found::bare(alloc, answer))
+        }
+        Ok(Step::Ends(answer)) => Ok(Found::bare(alloc, answer)),
         Err(NoMemory) => Err(NoMemory),
-    }
-}
-
-/// What was found by a reading of the file of this name.
-fn found_by(
-    alloc: Global,
-    work: FileWork,
-    name: &str,
-    reading: &Reading,
-) -> Result<Answer, NoMemory>
-    ensures { IfOk result (λ answer. answer ≡ file_answer work name.now reading.now) }
-{
-    match reading {
-        Reading::Whole(bytes) => on_bytes(alloc, work, bytes.as_slice()),
-        Reading::Unread => Answer::unread(alloc, name),
-        Reading::Long => Answer::long(alloc, name),
     }
 }
 

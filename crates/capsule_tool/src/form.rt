@@ -1,7 +1,7 @@
 ghost use Rattle.std.specs.Prelude.{◌≡◌};
 ghost use Rattle.std.specs.Char.{is_ascii_digit};
 ghost use Rattle.std.specs.List.{list_all};
-ghost use Rattle.capsule_tool.specs.Forms.{form_of, form_of_one, file_work_of, is_load_count};
+ghost use Rattle.capsule_tool.specs.Forms.{form_of, form_of_one, is_load_count};
 
 use cu_base::Text;
 
@@ -29,19 +29,6 @@ pub enum FileWork {
     Check,
     /// It is written again without its lead and its pads.
     Rebuild,
-}
-
-impl Form {
-    /// The work on a file, where the form is of one that is built.
-    pub fn file_work(self) -> Option<FileWork>
-        ensures { result ≡ file_work_of self }
-    {
-        match self {
-            Form::Check => Some(FileWork::Check),
-            Form::Rebuild => Some(FileWork::Rebuild),
-            Form::Show | Form::Make | Form::Play | Form::Load => None,
-        }
-    }
 }
 
 /// The form of the words. None exactly where they have none of the six.

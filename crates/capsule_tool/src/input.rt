@@ -1,7 +1,7 @@
-ghost use Rattle.std.specs.Prelude.{◌≡◌, IfOk, OnOk, OnErr, ◌⊎◌, ◌++◌, ◌∷◌, [], ◌≤◌};
-ghost use Rattle.capsule_tool.specs.Readings.{IsReading};
+ghost use Rattle.std.specs.Prelude.{◌≡◌, ◌⊎◌, ◌++◌, ◌∷◌, [], ◌≤◌, IfOk, OnErr};
+ghost use Rattle.capsule_tool.specs.Readings.{WasRead, seen};
 
-use cu_base::{Blob, MAX_CAPSULE_BYTES, NoMemory, Text};
+use cu_base::{Blob, NoMemory, Text};
 use cu_io::{Inputs, OpenFault, ReadFault, read_whole};
 use std::alloc::Global;
 
@@ -12,18 +12,18 @@ pub enum Reading {
     Whole(Blob),
     /// It is not there, or a call failed.
     Unread,
-    /// It has more bytes than a capsule may have.
+    /// It has more bytes than its limit.
     Long,
 }
 
-/// Reads the input of this name whole.
+/// Reads the input of this name whole, up to a limit.
 pub fn read_input<I: Inputs>(
     alloc: Global,
     inputs: &mut I,
     name: &Text,
+    limit: u32,
 ) -> Result<Reading, NoMemory>
-    ensures reading { IfOk result (IsReading (I.named inputs.old) name.now (I.faults inputs.old) (I.faults inputs.new) (I.taken inputs.old) (I.taken inputs.new)) }
-    ensures asked { OnOk result (I.asked inputs.new ≡ I.asked inputs.old ++ name.now ∷ []) }
+    ensures reading { IfOk result (WasRead (I.named inputs.old) limit name.now (seen (I.asked inputs.old) (I.faults inputs.old) (I.taken inputs.old)) (seen (I.asked inputs.new) (I.faults inputs.new) (I.taken inputs.new))) }
     ensures memory { OnErr result ((I.asked inputs.new ≡ I.asked inputs.old) ⊎ (I.asked inputs.new ≡ I.asked inputs.old ++ name.now ∷ [])) }
     ensures named { I.named inputs.new ≡ I.named inputs.old }
     ensures later { I.faults inputs.old ≤ I.faults inputs.new }
@@ -34,7 +34,7 @@ pub fn read_input<I: Inputs>(
         Err(OpenFault::Failed) => return Ok(Reading::Unread),
         Err(OpenFault::Memory) => return Err(NoMemory),
     };
-    let read = read_whole(alloc, &mut source, MAX_CAPSULE_BYTES);
+    let read = read_whole(alloc, &mut source, limit);
     inputs.fold(source);
     match read {
         Ok(bytes) => Ok(Reading::Whole(bytes)),

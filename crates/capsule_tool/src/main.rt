@@ -1,17 +1,22 @@
-//! `capsule_tool` checks and rebuilds UEFI capsule files. Its words are `check FILE` and `rebuild FILE`; the
-//! other forms are still to be built, and answer so.
+//! `capsule_tool` checks and rebuilds UEFI capsule files, and plays a platform that takes them. Its words are
+//! `check FILE`, `rebuild FILE` and `play BOARD SCRIPT`; the other forms are still to be built, and answer so.
 //!
-//! `run` is the whole program over inputs and a sink: what it writes and its status are a function of the
-//! words and of the bytes of the inputs, wherever nothing outside fails.
+//! `run` is the whole program over inputs and a sink: what it writes, its status and the trace of a play are a
+//! function of the words and of the bytes of the inputs, wherever nothing outside fails.
 #![tactic(auto)]
 
 mod answer;
 mod check;
 mod file;
 mod form;
+mod found;
 mod input;
+mod kinds;
+mod limits;
+mod play;
 mod program;
 mod status;
+mod step;
 #[cfg(test)]
 mod tests;
 

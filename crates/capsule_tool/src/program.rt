@@ -1,53 +1,62 @@
-ghost use Rattle.std.specs.Prelude.{◌≡◌, ◌≤◌, ◌⊎◌, ◌++◌, IfOk, OnOk, OnErr};
+ghost use Rattle.std.specs.Prelude.{◌≡◌, ◌≤◌, map, IfOk, OnErr};
 ghost use Rattle.cu_base.specs.Causes.{Rose};
-ghost use Rattle.capsule_tool.specs.Forms.{form_of, work_of};
-ghost use Rattle.capsule_tool.specs.Told.{MayFind, Writes, names_of};
-ghost use Rattle.capsule_tool.specs.Runs.{AnswersAsTold, Judges, IsUsage, IsUnread, IsLong, IsLater, IsStatus, WritesFront, IsAsked};
+ghost use Rattle.reset_play.specs.Told.{said_of};
+ghost use Rattle.capsule_tool.specs.Forms.{form_of};
+ghost use Rattle.capsule_tool.specs.Readings.{seen};
+ghost use Rattle.capsule_tool.specs.Runs.{AnswersAsTold, Judges, IsUsage, IsUnread, IsLong, IsTrace, Writes, WritesFront, IsAsked};
+ghost use Rattle.capsule_tool.specs.Told.{work_of};
+ghost use Rattle.capsule_tool.specs.Works.{MayFind, MayStop};
 
 use crate::answer::Answer;
 use crate::file::on_file;
-use crate::form::form_of_words;
+use crate::form::{FileWork, Form, form_of_words};
+use crate::found::Found;
+use crate::play::on_play;
 use crate::status::Status;
 use cu_base::{NoMemory, Text};
 use cu_io::{Inputs, Sink, WriteFault, write_whole};
+use reset_play::Trace;
 use std::alloc::Global;
 
-/// How a run ended.
-#[derive(Clone, Copy, Debug, PartialEq, Eq)]
+/// How a run ended: the status, and what a play told of its events. With status 6 the trace is whole or empty.
+#[derive(Drop)]
 pub struct Outcome {
     pub status: u8,
+    pub trace: Trace,
 }
 
 /// All the work of the words. Nothing is written by it.
-#[tactic(auto, using(crate::proofs::FormLaws::has_operands))]
-fn answer<I: Inputs>(alloc: Global, words: &[Text], inputs: &mut I) -> Result<Answer, NoMemory>
-    ensures found { IfOk result (MayFind (form_of words.now) (work_of (form_of words.now)) (I.named inputs.old) words.now (I.faults inputs.old) (I.faults inputs.new) (I.taken inputs.old) (I.taken inputs.new)) }
-    ensures asked { OnOk result (I.asked inputs.new ≡ I.asked inputs.old ++ names_of (work_of (form_of words.now)) words.now) }
-    ensures memory { OnErr result ((I.asked inputs.new ≡ I.asked inputs.old) ⊎ (I.asked inputs.new ≡ I.asked inputs.old ++ names_of (work_of (form_of words.now)) words.now)) }
+fn find<I: Inputs>(alloc: Global, words: &[Text], inputs: &mut I) -> Result<Found, NoMemory>
+    ensures found { IfOk result (MayFind (I.named inputs.old) (work_of words.now) (seen (I.asked inputs.old) (I.faults inputs.old) (I.taken inputs.old)) (seen (I.asked inputs.new) (I.faults inputs.new) (I.taken inputs.new))) }
+    ensures memory { OnErr result (MayStop (I.named inputs.old) (work_of words.now) (seen (I.asked inputs.old) (I.faults inputs.old) (I.taken inputs.old)) (seen (I.asked inputs.new) (I.faults inputs.new) (I.taken inputs.new))) }
     ensures named { I.named inputs.new ≡ I.named inputs.old }
     ensures later { I.faults inputs.old ≤ I.faults inputs.new }
 {
     match form_of_words(words) {
-        None => Answer::usage(alloc),
-        Some(form) => match form.file_work() {
-            Some(work) => on_file(alloc, work, &words[1], inputs),
-            None => Answer::later(alloc, words[0].as_str()),
-        },
+        None => Ok(Found::bare(alloc, Answer::usage(alloc)?)),
+        Some(Form::Check) => on_file(alloc, FileWork::Check, &words[1], inputs),
+        Some(Form::Rebuild) => on_file(alloc, FileWork::Rebuild, &words[1], inputs),
+        Some(Form::Play) => on_play(alloc, &words[1], &words[2], inputs),
+        Some(Form::Show | Form::Make | Form::Load) => {
+            Ok(Found::bare(alloc, Answer::later(alloc, words[0].as_str())?))
+        }
     }
 }
 
-/// Writes what was found.
-fn say<O: Sink>(out: &mut O, answer: &Answer) -> Outcome
+/// Writes what was found, and ends the run.
+fn say<O: Sink>(out: &mut O, found: Found) -> Outcome
     ensures counts { O.faults out.old ≤ O.faults out.new }
-    ensures written { Writes answer.now result.status (O.written out.old) (O.written out.new) (O.faults out.old) (O.faults out.new) }
+    ensures written { Writes found.answer result.status (O.written out.old) (O.written out.new) (O.faults out.old) (O.faults out.new) }
+    ensures trace { map said_of result.trace.items ≡ found.trace }
 {
-    let status = match write_whole(out, answer.text.as_slice()) {
-        Ok(()) => answer.status,
+    let status = match write_whole(out, found.answer.text.as_slice()) {
+        Ok(()) => found.answer.status,
         Err(WriteFault::Write) => Status::Unwritten,
         Err(WriteFault::Memory) => Status::Memory,
     };
     Outcome {
         status: status.code(),
+        trace: found.trace,
     }
 }
 
@@ -59,31 +68,36 @@ pub fn run<I: Inputs, O: Sink>(
     inputs: &mut I,
     out: &mut O,
 ) -> Outcome
-    // Where nothing outside fails, status and text are those told by the words and the named bytes.
-    ensures exact { ¬ Rose (I.faults inputs.old) (I.faults inputs.new) → ¬ Rose (O.faults out.old) (O.faults out.new) → AnswersAsTold (I.named inputs.old) words.now result.status (O.written out.old) (O.written out.new) }
+    // Where nothing outside fails, status, trace and text are those told by the words and the named bytes.
+    ensures exact { ¬ Rose (I.faults inputs.old) (I.faults inputs.new) → ¬ Rose (O.faults out.old) (O.faults out.new) → AnswersAsTold (I.named inputs.old) words.now result.status (map said_of result.trace.items) (O.written out.old) (O.written out.new) }
 
     // When each status comes, whatever happens outside.
-    ensures done { result.status ≡ 0 → Judges (work_of (form_of words.now)) words.now (I.named inputs.old) 0 (O.written out.old) (O.written out.new) }
-    ensures refused { result.status ≡ 1 → Judges (work_of (form_of words.now)) words.now (I.named inputs.old) 1 (O.written out.old) (O.written out.new) }
+    ensures done { result.status ≡ 0 → Judges (work_of words.now) (I.named inputs.old) 0 (map said_of result.trace.items) (O.written out.old) (O.written out.new) }
+    ensures refused { result.status ≡ 1 → Judges (work_of words.now) (I.named inputs.old) 1 (map said_of result.trace.items) (O.written out.old) (O.written out.new) }
     ensures usage { result.status ≡ 2 → IsUsage (form_of words.now) (O.written out.old) (O.written out.new) }
-    ensures unread { result.status ≡ 4 → IsUnread (work_of (form_of words.now)) words.now (I.named inputs.old) (I.faults inputs.old) (I.faults inputs.new) (O.written out.old) (O.written out.new) }
+    ensures faulty { result.status ≡ 3 → Judges (work_of words.now) (I.named inputs.old) 3 (map said_of result.trace.items) (O.written out.old) (O.written out.new) }
+    ensures unread { result.status ≡ 4 → IsUnread (work_of words.now) (I.named inputs.old) (seen (I.asked inputs.old) (I.faults inputs.old) (I.taken inputs.old)) (seen (I.asked inputs.new) (I.faults inputs.new) (I.taken inputs.new)) (O.written out.old) (O.written out.new) }
     ensures unwritten { result.status ≡ 5 → Rose (O.faults out.old) (O.faults out.new) }
-    ensures long { result.status ≡ 7 → IsLong (work_of (form_of words.now)) words.now (I.named inputs.old) (I.taken inputs.old) (I.taken inputs.new) (O.written out.old) (O.written out.new) }
-    ensures later { result.status ≡ 8 → IsLater (form_of words.now) words.now (O.written out.old) (O.written out.new) }
-    ensures other { IsStatus result.status }
+    ensures long { result.status ≡ 7 → IsLong (work_of words.now) (I.named inputs.old) (seen (I.asked inputs.old) (I.faults inputs.old) (I.taken inputs.old)) (seen (I.asked inputs.new) (I.faults inputs.new) (I.taken inputs.new)) (map said_of result.trace.items) (O.written out.old) (O.written out.new) }
+    ensures later { result.status ≡ 8 → Judges (work_of words.now) (I.named inputs.old) 8 (map said_of result.trace.items) (O.written out.old) (O.written out.new) }
+    ensures other { result.status ≤ 8 }
 
     // What is written is a prefix of what may be found, or nothing where memory ran out first.
-    ensures prefix { WritesFront (form_of words.now) words.now (I.named inputs.old) (I.faults inputs.old) (I.faults inputs.new) (I.taken inputs.old) (I.taken inputs.new) result.status (O.written out.old) (O.written out.new) }
+    ensures prefix { WritesFront (work_of words.now) (I.named inputs.old) (seen (I.asked inputs.old) (I.faults inputs.old) (I.taken inputs.old)) (seen (I.asked inputs.new) (I.faults inputs.new) (I.taken inputs.new)) result.status (O.written out.old) (O.written out.new) (O.faults out.old) (O.faults out.new) }
 
-    // Only names of the words are asked for, each once, in order. The inputs stay, and counts never fall.
-    ensures asked { IsAsked (work_of (form_of words.now)) words.now result.status (I.asked inputs.old) (I.asked inputs.new) }
+    // The trace is that of what was found, and empty where that is no play.
+    ensures trace { IsTrace (work_of words.now) (I.named inputs.old) (seen (I.asked inputs.old) (I.faults inputs.old) (I.taken inputs.old)) (seen (I.asked inputs.new) (I.faults inputs.new) (I.taken inputs.new)) result.status (map said_of result.trace.items) }
+
+    // Only names of the words and of the script are asked for, each once, in order. The inputs stay, and counts never fall.
+    ensures asked { IsAsked (work_of words.now) (I.named inputs.old) (seen (I.asked inputs.old) (I.faults inputs.old) (I.taken inputs.old)) (seen (I.asked inputs.new) (I.faults inputs.new) (I.taken inputs.new)) result.status }
     ensures named { I.named inputs.new ≡ I.named inputs.old }
     ensures counts { (I.faults inputs.old ≤ I.faults inputs.new) × (O.faults out.old ≤ O.faults out.new) }
 {
-    match answer(alloc, words, inputs) {
-        Ok(found) => say(out, &found),
+    match find(alloc, words, inputs) {
+        Ok(found) => say(out, found),
         Err(NoMemory) => Outcome {
             status: Status::Memory.code(),
+            trace: Trace::new(alloc),
         },
     }
 }

@@ -10,13 +10,15 @@ pub enum Status {
     Refused,
     /// The words have none of the forms.
     Usage,
+    /// A board or a script is refused.
+    Faulty,
     /// An input could not be read, or is not there.
     Unread,
     /// A write failed.
     Unwritten,
     /// Memory ran out.
     Memory,
-    /// An input is longer than its limit.
+    /// An input, or a sum of inputs, passes its limit.
     Long,
     /// The words or an input have a form that is not built yet.
     Later,
@@ -31,6 +33,7 @@ impl Status {
             Status::Done => 0,
             Status::Refused => 1,
             Status::Usage => 2,
+            Status::Faulty => 3,
             Status::Unread => 4,
             Status::Unwritten => 5,
             Status::Memory => 6,

@@ -1,0 +1,71 @@
+-- The work of a play: the board is read and parsed, then the script, then the inputs that the script names, each once in order
+-- of first mention. The first failure decides.
+use Rattle.std.specs.Prelude.{ℕ, ◌+◌, nat_lt, ◌≡◌, Bool, false, ⊤, List, [], ◌∷◌, ◌++◌, length, map, Result, Ok, Err, if◌then◌else◌}
+use Rattle.std.specs.List.{list_all}
+use Rattle.bench_model.specs.Boards.{BoardValue}
+use Rattle.cu_base.specs.declared.limits.TheConstants.{MAX_CAPSULE_BYTES}
+use Rattle.cu_io.specs.Named.{Named}
+use Rattle.recipe_files.specs.Boards.{board_text}
+use Rattle.recipe_files.specs.declared.faults.BadKind.{BadKind}
+use Rattle.reset_play.specs.Plays.{has_one_device, is_of_files, is_thin_on, thin_trace}
+use Rattle.reset_play.specs.ScriptInputs.{inputs_of, has_name}
+use Rattle.reset_play.specs.ScriptText.{Said as ScriptSaid, script_said}
+use Rattle.reset_play.specs.Texts.{trace_text}
+use Rattle.reset_play.specs.Told.{Said}
+use Rattle.reset_play.specs.declared.event.Event.{Event}
+use Rattle.capsule_tool.specs.declared.limits.TheConstants.{MAX_TEXT_BYTES, MAX_NAMED_BYTES}
+use Rattle.capsule_tool.specs.declared.status.Status.TheVariants.{Done}
+use Rattle.capsule_tool.specs.Answers.{faulty_board, faulty_script, later, long}
+use Rattle.capsule_tool.specs.Findings.{Finding, bare}
+use Rattle.capsule_tool.specs.Kinds.{board_kind, script_kind}
+use Rattle.capsule_tool.specs.Works.{Work}
+use Rattle.capsule_tool.specs.Works.Work.{Finds, Reads}
+
+-- a play that told this of its events
+abbrev pub played_as : BoardValue → List Event → List Said → Finding
+played_as board events trace = record {
+  answer = record { status = Done; text = trace_text board events (map (λ said. said.answer) trace) };
+  trace = trace;
+}
+
+-- the play of these events over the inputs that were read
+abbrev pub played : BoardValue → List Event → Named → Finding
+played board events loaded = played_as board events (thin_trace board loaded events)
+
+-- no name stands twice
+abbrev pub AreDistinct : List (List ℕ) → Type 0
+AreDistinct [] = ⊤
+AreDistinct (name ∷ names) = (has_name name names ≡ false) × AreDistinct names
+
+-- what is done with an input by its bytes, where those before it are loaded and have this many bytes in sum: rest goes on
+abbrev pub input_next : BoardValue → Named → ℕ → List ℕ → (Named → ℕ → Work) → List ℕ → Work
+input_next board loaded sum name rest bytes =
+    if nat_lt MAX_NAMED_BYTES (sum + length bytes) then Finds (bare (long name))
+    else if is_thin_on board bytes then rest (loaded ++ (name, bytes) ∷ []) (sum + length bytes)
+    else Finds (bare (later name))
+
+abbrev pub input_work : BoardValue → Named → ℕ → List ℕ → (Named → ℕ → Work) → Work
+input_work board loaded sum name rest = Reads MAX_CAPSULE_BYTES name (input_next board loaded sum name rest)
+
+-- the inputs of these names, one after the other
+abbrev pub inputs_work : BoardValue → List Event → Named → ℕ → List (List ℕ) → Work
+inputs_work board events loaded sum [] = Finds (played board events loaded)
+inputs_work board events loaded sum (name ∷ names) =
+    input_work board loaded sum name (λ loaded' sum'. inputs_work board events loaded' sum' names)
+
+-- what is done by what the script of this name says
+abbrev pub script_next : BoardValue → List ℕ → ScriptSaid → Work
+script_next board name (Err fault) = Finds (bare (faulty_script fault.0 (script_kind fault.1)))
+script_next board name (Ok events) =
+    if list_all is_of_files events then inputs_work board events [] 0 (inputs_of events) else Finds (bare (later name))
+
+abbrev pub script_work : BoardValue → List ℕ → Work
+script_work board name = Reads MAX_TEXT_BYTES name (λ bytes. script_next board name (script_said bytes))
+
+-- what is done by what the board of this name says
+abbrev pub board_next : List ℕ → List ℕ → Result BoardValue (BadKind × List ℕ) → Work
+board_next name script (Err fault) = Finds (bare (faulty_board (board_kind fault.0) fault.1))
+board_next name script (Ok board) = if has_one_device board then script_work board script else Finds (bare (later name))
+
+abbrev pub play_work : List ℕ → List ℕ → Work
+play_work board script = Reads MAX_TEXT_BYTES board (λ bytes. board_next board script (board_text bytes))
