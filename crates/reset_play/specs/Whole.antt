@@ -2,7 +2,6 @@
 use Rattle.std.specs.Prelude.{◌≤◌, IsTrue, true, length, List, [], ◌∷◌, ◌++◌, Bool, Option, None, Some, ◌==◌, map, not, if◌then◌else◌}
 use Rattle.std.specs.List.{list_all}
 use Rattle.bench_model.specs.Boards.{BoardValue}
-use Rattle.cu_base.specs.declared.ticket.Ticket.{Ticket}
 use Rattle.reset_play.specs.declared.limits.TheConstants.{MAX_FILES}
 use Rattle.reset_play.specs.declared.report.Report.{Report}
 use Rattle.reset_play.specs.declared.unit.End.TheVariants.{Sealed}

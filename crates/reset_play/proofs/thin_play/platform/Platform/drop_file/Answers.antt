@@ -5,7 +5,7 @@ use Rattle.reset_play.specs.Events.{is_folder_full, plain}
 use Rattle.reset_play.specs.Machine.{File, Machine}
 use Rattle.reset_play.specs.Names.{is_same_name}
 use Rattle.reset_play.specs.Plays.{is_thin_on}
-use Rattle.reset_play.specs.Told.{Said, said_of}
+use Rattle.reset_play.specs.Told.{said_of}
 use Rattle.reset_play.specs.Told.Told.{Serial}
 use Rattle.reset_play.specs.Whole.{IsPlatform, held}
 use Rattle.reset_play.proofs.FolderFiles.{fewer_files, one_file_more, room_left, dropped_same}
