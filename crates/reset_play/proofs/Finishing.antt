@@ -1,17 +1,13 @@
 -- A boot that nothing stops comes to the same as its work done piece by piece.
-use Rattle.std.proofs.Common.{◌≡◌, ℕ, zero, suc, ◌+◌, ◌*◌, ◌≤◌, ◌==◌, Bool, true, false, cond, not, List, [], ◌∷◌, ◌++◌, map, flat_map, drop, length, find, filter, refl, sym, arith, ap, ◌∙◌, subst, Option, Some, None, append_assoc, append-nil}
+use Rattle.std.proofs.Common.{◌≡◌, ℕ, zero, suc, ◌+◌, ◌*◌, ◌≤◌, List, [], ◌∷◌, ◌++◌, length, refl, arith, ap, ◌∙◌}
 use Rattle.reset_play.specs.declared.unit.End.{End}
-use Rattle.reset_play.specs.declared.unit.End.TheVariants.{Sealed}
-use Rattle.reset_play.specs.declared.unit.Kind.TheVariants.{Try}
-use Rattle.reset_play.specs.declared.unit.UnitLine.{UnitLine}
-use Rattle.reset_play.specs.Boots.{Work, Progress, Course, after, after_unit, next, after_steps, boot_start, boot_of, boot_work, course_of, element_of, with_claim, one_step}
+use Rattle.reset_play.specs.Boots.{Work, Progress, Course, after_unit, next, after_steps, boot_start, boot_of, boot_work, course_of}
 use Rattle.reset_play.specs.Boots.Work.{Settles, Unstages, Does, Prunes, Removes, Clears}
 use Rattle.reset_play.specs.Boots.Course.{Claim, Close}
 use Rattle.reset_play.specs.Deliveries.{BootUnit}
 use Rattle.reset_play.specs.Formats.{Formats}
 use Rattle.reset_play.specs.Machine.{Machine}
 use Rattle.reset_play.specs.Report.{Reported}
-use Rattle.reset_play.specs.Spent.Standing.{Open}
 use Rattle.reset_play.specs.Whole.{whole, finish}
 use Rattle.reset_play.proofs.Ending.{weight, weight_most}
 

@@ -1,6 +1,5 @@
 -- A platform of which files are taken out, or put in, is one still.
-use Rattle.std.proofs.Common.{◌≡◌, ℕ, zero, suc, ◌+◌, ◌≤◌, ◌<◌, ◌&&◌, ◌||◌, Bool, true, false, cond, not, IsTrue, List, [], ◌∷◌, ◌++◌, filter, length, nat_le, refl, sym, arith, ap, ◌∙◌, subst, Option}
-use Rattle.std.proofs.lemmas.List.Sums.{length-filter, count_by-le-length}
+use Rattle.std.proofs.Common.{◌≡◌, ℕ, suc, ◌+◌, ◌≤◌, ◌<◌, ◌&&◌, ◌||◌, Bool, true, false, cond, not, IsTrue, List, [], ◌∷◌, ◌++◌, filter, length, nat_le, refl, arith, ap, ◌∙◌, Option}
 use Rattle.std.proofs.lemmas.Bool.Decides.{nat_tests}
 use Rattle.std.specs.List.{list_any, list_all}
 use Rattle.bench_model.specs.Boards.{BoardValue}
@@ -11,7 +10,8 @@ use Rattle.reset_play.specs.Plays.{is_thin_on}
 use Rattle.reset_play.specs.Spent.{Element}
 use Rattle.reset_play.specs.Told.{Said}
 use Rattle.reset_play.specs.Whole.{IsPlatform}
-use Rattle.reset_play.proofs.OneUnit.{both_left, both_right}
+use Rattle.reset_play.proofs.OneUnit.{both, both_left, both_right}
+use Rattle.reset_play.proofs.PlayEvents.{length_more}
 
 filter_short : {X : Type 0} (keep : X → Bool) (xs : List X) → length (filter keep xs) ≤ length xs
 filter_short keep [] = omega arith
@@ -26,10 +26,6 @@ filter_all p keep (x ∷ xs) all =
       | true ↦ both (p x) _ (both_left (p x) _ all) (filter_all p keep xs (both_right (p x) _ all))
       | false ↦ filter_all p keep xs (both_right (p x) _ all)
     ]
-  where
-    both : (a b : Bool) → a ≡ true → b ≡ true → IsTrue (a && b)
-    both true b h k = k
-    both false b h k = h
 
 -- fewer files
 pub fewer_files : (board : BoardValue) (keep : File → Bool) (files : List File) (done : List Element) (claimed : Option Element) → IsPlatform board files done claimed → IsPlatform board (filter keep files) done claimed
@@ -40,15 +36,7 @@ fewer_files board keep files done claimed p =
 
 all_more : {X : Type 0} (p : X → Bool) (xs : List X) (y : X) → IsTrue (list_all p xs) → IsTrue (p y) → IsTrue (list_all p (xs ++ y ∷ []))
 all_more p [] y all h = both (p y) true h refl
-  where
-    both : (a b : Bool) → a ≡ true → b ≡ true → IsTrue (a && b)
-    both true b h k = k
-    both false b h k = h
 all_more p (x ∷ xs) y all h = both (p x) _ (both_left (p x) _ all) (all_more p xs y (both_right (p x) _ all) h)
-  where
-    both : (a b : Bool) → a ≡ true → b ≡ true → IsTrue (a && b)
-    both true b h k = k
-    both false b h k = h
 
 shorter_by : {X : Type 0} (gone : X → Bool) (xs : List X) → (list_any gone xs ≡ true → length (filter (λ x. not (gone x)) xs) + 1 ≤ length xs) → (x : X) (b : Bool) → (b || list_any gone xs) ≡ true → length (cond (not b) (x ∷ filter (λ x. not (gone x)) xs) (filter (λ x. not (gone x)) xs)) + 1 ≤ suc (length xs)
 shorter_by gone xs ih x true k = let h : length (filter (λ x. not (gone x)) xs) ≤ length xs = filter_short (λ x. not (gone x)) xs in omega arith
@@ -57,10 +45,6 @@ shorter_by gone xs ih x false k = let h : length (filter (λ x. not (gone x)) xs
 shorter : {X : Type 0} (gone : X → Bool) (xs : List X) → list_any gone xs ≡ true → length (filter (λ x. not (gone x)) xs) + 1 ≤ length xs
 shorter gone [] h = cc
 shorter gone (x ∷ xs) h = shorter_by gone xs (shorter gone xs) x (gone x) h
-
-length_more : {X : Type 0} (xs : List X) (y : X) → length (xs ++ y ∷ []) ≡ length xs + 1
-length_more [] y = refl
-length_more (x ∷ xs) y = let h : length (xs ++ y ∷ []) ≡ length xs + 1 = length_more xs y in omega arith
 
 -- a file in place of those that are gone, where there is room
 pub one_file_more : (board : BoardValue) (gone : File → Bool) (files : List File) (file : File) (done : List Element) (claimed : Option Element) → IsPlatform board files done claimed → IsTrue (is_thin_on board file.bytes) → (list_any gone files ≡ false → length files < MAX_FILES) → IsPlatform board (filter (λ x. not (gone x)) files ++ file ∷ []) done claimed

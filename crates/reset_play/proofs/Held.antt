@@ -1,5 +1,5 @@
 -- The list of a platform: closed elements, and perhaps one that is open behind them.
-use Rattle.std.proofs.Common.{◌≡◌, ℕ, zero, suc, ◌+◌, ◌≤◌, ◌&&◌, Bool, true, false, cond, not, IsTrue, List, [], ◌∷◌, ◌++◌, map, filter, find, length, count_by, refl, sym, arith, ap, ◌∙◌, subst, Option, Some, None, IsSome, is_some, append-nil, append_assoc}
+use Rattle.std.proofs.Common.{◌≡◌, ℕ, ◌+◌, Bool, true, false, cond, not, IsTrue, List, [], ◌∷◌, ◌++◌, map, filter, find, length, count_by, refl, sym, ap, ◌∙◌, subst, Option, Some, None, IsSome, is_some, append-nil}
 use Rattle.std.proofs.lemmas.List.Sums.{length-filter}
 use Rattle.std.specs.List.{list_all}
 use Rattle.bench_model.specs.Boards.{BoardValue}
@@ -15,10 +15,9 @@ use Rattle.reset_play.specs.Report.{Reported}
 use Rattle.reset_play.specs.Results.{line_of}
 use Rattle.reset_play.specs.Thin.{thin}
 use Rattle.reset_play.specs.Spent.{Element, is_open, is_closed}
-use Rattle.reset_play.specs.Spent.Standing.{Closed}
 use Rattle.reset_play.specs.Whole.{held, is_held_open, whole}
-use Rattle.reset_play.proofs.Lists.{NoneOpen, find_none, find_last, closed_more, closed_stays, closed}
-use Rattle.reset_play.proofs.OneUnit.{both_left, both_right}
+use Rattle.reset_play.proofs.Lists.{NoneOpen, find_none, find_last, closed_more, closed}
+use Rattle.reset_play.proofs.OneUnit.{both, both_left, both_right}
 
 not_open : (b : Bool) → not b ≡ true → b ≡ false
 not_open true h = cc
@@ -52,10 +51,6 @@ pub pends_held : (xs : List Element) (e : Element) → IsTrue (list_all is_close
 pends_held xs e all h = subst IsSome (sym (find_last xs e (none_open xs all) h)) refl
 
 -- all closed, with one more
-both : (a b : Bool) → a ≡ true → b ≡ true → IsTrue (a && b)
-both true b h k = k
-both false b h k = h
-
 pub all_closed_more : (xs : List Element) (e : Element) → IsTrue (list_all is_closed xs) → IsTrue (is_closed e) → IsTrue (list_all is_closed (xs ++ e ∷ []))
 all_closed_more [] e all h = both (is_closed e) true h refl
 all_closed_more (x ∷ xs) e all h = both (is_closed x) _ (both_left (is_closed x) _ all) (all_closed_more xs e (both_right (is_closed x) _ all) h)

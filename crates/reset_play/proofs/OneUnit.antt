@@ -1,19 +1,19 @@
 -- A thin file that has a target on a board of one device is one try of it.
-use Rattle.std.proofs.Common.{◌≡◌, ℕ, zero, suc, ◌+◌, ◌<◌, get_or, ◌==◌, ◌&&◌, ◌||◌, Bool, true, false, cond, not, IsTrue, List, [], ◌∷◌, ◌++◌, map, flat_map, filter, drop, length, find, refl, sym, arith, ap, ◌∙◌, subst, Option, Some, None, option_and_then}
+use Rattle.std.proofs.Common.{◌≡◌, ℕ, zero, suc, ◌<◌, get_or, ◌==◌, ◌&&◌, ◌||◌, Bool, true, false, cond, not, IsTrue, List, [], ◌∷◌, ◌++◌, map, flat_map, filter, drop, length, refl, sym, arith, ap, ◌∙◌}
 use Rattle.std.proofs.Math.Seq.{drop-nil}
 use Rattle.std.proofs.lemmas.Bool.Decides.{nat_tests}
 use Rattle.std.specs.List.{list_any, list_all, enumerate_from}
 use Rattle.bench_model.specs.Boards.{BoardValue}
 use Rattle.bench_model.specs.Devices.{DeviceValue}
-use Rattle.reset_play.specs.Boots.{Work, file_work, file_delivery, files_in_order}
+use Rattle.reset_play.specs.Boots.{file_work, file_delivery}
 use Rattle.reset_play.specs.Boots.Work.{Does, Removes}
-use Rattle.reset_play.specs.Deliveries.{BootUnit, units, unit_of, pieces, targets, is_target}
+use Rattle.reset_play.specs.Deliveries.{BootUnit, units, targets, is_target}
 use Rattle.reset_play.specs.Formats.{ItemHead}
 use Rattle.reset_play.specs.Machine.{File, Machine}
 use Rattle.reset_play.specs.Order.{in_order, inserted}
 use Rattle.reset_play.specs.Plays.{has_one_device, is_thin_on}
 use Rattle.reset_play.specs.Spent.{spent}
-use Rattle.reset_play.specs.Thin.{thin, thin_item, thin_capsules, is_thin}
+use Rattle.reset_play.specs.Thin.{thin, thin_item, is_thin}
 use Rattle.reset_play.specs.Whole.{file_unit, marked_work, marked_works, marks_of}
 
 pub both_left : (a b : Bool) → IsTrue (a && b) → a ≡ true
@@ -23,6 +23,10 @@ both_left false b h = cc
 pub both_right : (a b : Bool) → IsTrue (a && b) → b ≡ true
 both_right true b h = h
 both_right false b h = cc
+
+pub both : (a b : Bool) → a ≡ true → b ≡ true → IsTrue (a && b)
+both true b h k = k
+both false b h k = h
 
 either_left : (a : Bool) → (a || false) ≡ true → a ≡ true
 either_left true h = refl
@@ -69,11 +73,6 @@ works_marked m (x ∷ xs) one all =
     let head : file_work thin m x ≡ marked_work x (not (spent m.list x.serial == 0)) = work_one m x one (both_left _ _ all) in
     let tail : flat_map (file_work thin m) xs ≡ marked_works xs (marks_of m.list xs) = works_marked m xs one (both_right (is_thin_on m.board x.bytes) _ all) in
     ap (λ w. w ++ flat_map (file_work thin m) xs) head ∙ ap (λ w. marked_work x (not (spent m.list x.serial == 0)) ++ w) tail
-
-both : (a b : Bool) → a ≡ true → b ≡ true → IsTrue (a && b)
-both true true h k = refl
-both true false h k = k
-both false b h k = h
 
 -- what holds of all items holds of them in order
 inserted_all : {X : Type 0} (p : X → Bool) (before : X → X → Bool) (x : X) (ys : List X) → p x ≡ true → IsTrue (list_all p ys) → IsTrue (list_all p (inserted before x ys))

@@ -1,8 +1,8 @@
 -- A play goes on by one event.
-use Rattle.std.proofs.Common.{◌≡◌, ℕ, zero, suc, ◌+◌, ◌<◌, ◌≤◌, List, [], ◌∷◌, ◌++◌, map, take, drop, get_or, length, refl, sym, ap, arith, ◌∙◌, drop-cons, add-one, append-nil}
+use Rattle.std.proofs.Common.{◌≡◌, ℕ, zero, suc, ◌+◌, ◌<◌, ◌≤◌, List, [], ◌∷◌, ◌++◌, take, drop, get_or, length, refl, sym, ap, arith, ◌∙◌, drop-cons, add-one}
 use Rattle.reset_play.specs.declared.event.Event.{Event}
 use Rattle.cu_io.specs.Named.{Named}
-use Rattle.reset_play.specs.Events.{Act, act_of, outcome, trace_of, machine_after}
+use Rattle.reset_play.specs.Events.{act_of, outcome, trace_of, machine_after}
 use Rattle.reset_play.specs.Machine.{Machine}
 use Rattle.reset_play.specs.Plays.{loaded_bytes, acts_of}
 use Rattle.reset_play.specs.Thin.{thin}

@@ -1,12 +1,12 @@
 -- The parts of a boot on lists.
-use Rattle.std.proofs.Common.{◌≡◌, ℕ, ◌+◌, ◌<◌, List, [], ◌∷◌, ◌++◌, find, drop, get_or, length, refl, sym, ap, arith, nat_lt, flat_map, ◌∙◌, subst, Option, Some, None, append_assoc, Bool, drop-cons, add-one, option_map, unwrap_or, IsTrue, true, cond}
+use Rattle.std.proofs.Common.{◌≡◌, ℕ, ◌+◌, ◌<◌, List, [], ◌∷◌, ◌++◌, find, drop, get_or, length, refl, sym, ap, arith, nat_lt, flat_map, ◌∙◌, Option, Some, None, Bool, drop-cons, add-one, option_map, unwrap_or, IsTrue, true, cond}
 use Rattle.std.specs.List.{list_all}
 use Rattle.reset_play.specs.declared.snapshot.StagedPair.{StagedPair}
 use Rattle.reset_play.specs.declared.unit.End.{End}
 use Rattle.reset_play.specs.declared.unit.End.TheVariants.{Refused, Sealed}
 use Rattle.reset_play.specs.declared.unit.Kind.TheVariants.{Try, Heal}
 use Rattle.reset_play.specs.declared.unit.UnitKey.{UnitKey}
-use Rattle.reset_play.specs.Boots.{Work, Progress, after, after_unit, next, boot_of, boot_start, boot_work, work_with, staged_work, pair_work, folder_work, file_work, files_in_order, prune_work, settled, settled_with, element_of, course_of_try, with_claim, with_element, with_lines, one_step, next_line}
+use Rattle.reset_play.specs.Boots.{Work, Progress, after_unit, next, boot_of, boot_start, work_with, staged_work, pair_work, folder_work, file_work, files_in_order, prune_work, settled, settled_with, element_of, course_of_try, with_claim, with_element, with_lines, one_step, next_line}
 use Rattle.reset_play.specs.Boots.Work.{Settles, Does, Clears}
 use Rattle.reset_play.specs.Deliveries.{fmp_guid}
 use Rattle.reset_play.specs.Formats.{Item}

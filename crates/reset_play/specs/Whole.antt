@@ -1,8 +1,8 @@
--- A boot by whole pieces of work: a unit that is claimed is settled at once. A boot that nothing stops comes to the same.
+-- A boot of a platform on lists by whole pieces of work, and what holds of such a platform. A unit that is claimed is
+-- settled at once: a boot that nothing stops comes to the same.
 use Rattle.std.specs.Prelude.{◌≤◌, IsTrue, true, length, List, [], ◌∷◌, ◌++◌, Bool, Option, None, Some, ◌==◌, map, not, if◌then◌else◌}
 use Rattle.std.specs.List.{list_all}
 use Rattle.bench_model.specs.Boards.{BoardValue}
-use Rattle.cu_base.specs.declared.ticket.Ticket.{Ticket}
 use Rattle.reset_play.specs.declared.limits.TheConstants.{MAX_FILES}
 use Rattle.reset_play.specs.declared.report.Report.{Report}
 use Rattle.reset_play.specs.declared.unit.End.TheVariants.{Sealed}
@@ -66,7 +66,7 @@ abbrev pub held : Option Element → List Element
 held None = []
 held (Some e) = e ∷ []
 
--- the platform's one open element, if any, is open
+-- the one element behind the closed ones, if any, is open
 abbrev pub is_held_open : Option Element → Bool
 is_held_open None = true
 is_held_open (Some e) = is_open e

@@ -1,4 +1,4 @@
-use Rattle.std.proofs.Common.{◌≡◌, ℕ, List, [], Option, option_map, unwrap_or, ap}
+use Rattle.std.proofs.Common.{ℕ, List, [], Option, option_map, unwrap_or, ap}
 use Rattle.reset_play.specs.Formats.{Parts}
 use Rattle.reset_play.proofs.thin_play.attempt.parts_of.Goals as goal
 

@@ -1,5 +1,4 @@
-use Rattle.std.proofs.Common.{◌≡◌, List, [], Some, find, sym, ap, ◌∙◌}
-use Rattle.reset_play.specs.declared.snapshot.StagedPair.{StagedPair}
+use Rattle.std.proofs.Common.{◌≡◌, [], Some, find, sym, ap, ◌∙◌}
 use Rattle.reset_play.specs.declared.unit.End.TheVariants.{Sealed}
 use Rattle.reset_play.specs.Boots.{boot_start}
 use Rattle.reset_play.specs.Machine.{Machine}

@@ -1,4 +1,4 @@
-use Rattle.std.proofs.Common.{rules, ◌≡◌, ℕ, ◌+◌, IsTrue, ◌∷◌, ◌++◌, [], None, find, length, count_by, ◌∙◌, sym, ap, subst}
+use Rattle.std.proofs.Common.{rules, ◌≡◌, ◌+◌, IsTrue, ◌∷◌, ◌++◌, [], None, find, length, count_by, ◌∙◌, sym, ap, subst}
 use Rattle.std.specs.List.{list_all}
 use Rattle.reset_play.specs.declared.unit.Kind.TheVariants.{Try}
 use Rattle.reset_play.specs.Boots.{kept_with}

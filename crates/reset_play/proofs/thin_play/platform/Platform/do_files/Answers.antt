@@ -1,5 +1,4 @@
-use Rattle.std.proofs.Common.{rules, arith, ◌≡◌, IsTrue, List, sym, ap, subst, get_or, ◌∙◌}
-use Rattle.std.specs.List.{list_all}
+use Rattle.std.proofs.Common.{arith, IsTrue, sym, subst, ◌∙◌}
 use Rattle.bench_model.specs.Boards.{BoardValue}
 use Rattle.reset_play.specs.Machine.{File}
 use Rattle.reset_play.specs.Plays.{is_thin_on}

@@ -5,7 +5,7 @@ use Rattle.reset_play.specs.Events.{is_folder_full, plain}
 use Rattle.reset_play.specs.Machine.{File, Machine}
 use Rattle.reset_play.specs.Names.{is_same_name}
 use Rattle.reset_play.specs.Plays.{is_thin_on}
-use Rattle.reset_play.specs.Told.{Said, said_of}
+use Rattle.reset_play.specs.Told.{said_of}
 use Rattle.reset_play.specs.Told.Told.{Serial}
 use Rattle.reset_play.specs.Whole.{IsPlatform, held}
 use Rattle.reset_play.proofs.FolderFiles.{fewer_files, one_file_more, room_left, dropped_same}
@@ -24,7 +24,7 @@ invariant_of-self-2 c =
     λ h. room_left c.self.inside.files.items _ _ (subst (λ (m : Machine). is_folder_full m c.args.name.now ≡ false) (sym c.self.view_is) full) (subst (λ (n : List ℕ). list_any (λ (x : File). is_same_name x.name n) c.self.inside.files.items ≡ false) name h) in
     let on : IsTrue (is_thin_on c.self.inside.board.now c.args.bytes.now) = subst (λ (m : Machine). IsTrue (is_thin_on m.board c.args.bytes.now)) (sym c.self.view_is) c.requires in
     subst (λ (xs : List File). IsPlatform c.self.inside.board.now xs c.self.inside.done.items c.self.inside.claimed) (sym c.in_ok-put.ensures.ok)
-    (one_file_more c.self.inside.board.now (λ x. is_same_name x.name c.in_ok-from_str.field-0) c.self.inside.files.items (record { name = c.in_ok-from_str.field-0; serial = c.self.inside.last_file + 1; bytes = c.args.bytes.now }) c.self.inside.done.items c.self.inside.claimed c.self.invariant on room)
+    (one_file_more c.self.inside.board.now (λ x. is_same_name x.name c.in_ok-from_str.field-0) c.self.inside.files.items _ c.self.inside.done.items c.self.inside.claimed c.self.invariant on room)
 
 pub returns-clause-ok : goal.returns-clause-ok
 returns-clause-ok c =

@@ -1,7 +1,7 @@
-use Rattle.std.proofs.Common.{rules, ◌≡◌, ◌++◌, None, Some, IsSome, find, sym, ap, subst, ◌∙◌, refl}
+use Rattle.std.proofs.Common.{rules, ◌≡◌, None, IsSome, find, sym, ap, subst}
 use Rattle.reset_play.specs.Spent.{is_open}
 use Rattle.reset_play.specs.Thin.{thin}
-use Rattle.reset_play.specs.Whole.{at, finish, heal_work, held}
+use Rattle.reset_play.specs.Whole.{at, finish, heal_work}
 use Rattle.reset_play.proofs.Held.{rests_held, held_pends}
 use Rattle.reset_play.proofs.thin_play.platform.Platform.heal.Goals as goal
 

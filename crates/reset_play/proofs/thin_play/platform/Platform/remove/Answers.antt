@@ -1,4 +1,4 @@
-use Rattle.std.proofs.Common.{◌≡◌, not, ◌==◌, IsTrue, List, sym, subst}
+use Rattle.std.proofs.Common.{not, ◌==◌, List, sym, subst}
 use Rattle.reset_play.specs.Machine.{File}
 use Rattle.reset_play.specs.Whole.{IsPlatform}
 use Rattle.reset_play.proofs.FolderFiles.{fewer_files}

@@ -1,7 +1,6 @@
-use Rattle.std.proofs.Common.{rules, arith, ◌≡◌, ◌≤◌, ◌++◌, IsTrue, List, Bool, true, None, find, length, sym, ap, subst, ◌∙◌}
+use Rattle.std.proofs.Common.{rules, arith, ◌≡◌, ◌++◌, IsTrue, List, Bool, true, None, find, length, sym, ap, subst, ◌∙◌}
 use Rattle.std.specs.List.{list_all}
 use Rattle.bench_model.specs.Boards.{BoardValue}
-use Rattle.reset_play.specs.declared.limits.TheConstants.{MAX_FILES}
 use Rattle.reset_play.specs.Boots.{files_in_order}
 use Rattle.reset_play.specs.Machine.{File, Machine}
 use Rattle.reset_play.specs.Names.{is_taken_before}

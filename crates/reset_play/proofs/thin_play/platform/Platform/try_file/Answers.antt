@@ -1,4 +1,4 @@
-use Rattle.std.proofs.Common.{rules, ◌≡◌, ◌++◌, List, ℕ, None, Some, IsTrue, find, sym, ap, subst, ◌∙◌, refl, true}
+use Rattle.std.proofs.Common.{◌≡◌, ◌++◌, None, Some, IsTrue, find, sym, ap, subst, ◌∙◌, refl}
 use Rattle.cu_base.specs.declared.time.EfiTime.{EfiTime}
 use Rattle.reset_play.specs.declared.unit.End.TheVariants.{Refused, Sealed}
 use Rattle.reset_play.specs.declared.unit.Kind.TheVariants.{Try}
