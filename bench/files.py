@@ -4,8 +4,10 @@
 Usage: python3 bench/files.py [PROGRAM]
 
 PROGRAM is crates/capsule_tool/out/capsule_tool unless another is named. Two files are made: a capsule of one
-item and one of 65,535 items. Each command runs five times, and the least time counts; a ratio is that of the
-program to its yardstick. Memory is the greatest resident set.
+item and one of 65,535 items. Each command runs nine times, and the least time counts; a ratio is that of the
+program to its yardstick. `dd bs=64M` is the yardstick of a program that reads a whole file into fresh memory.
+Memory is the greatest resident set; the files are made by a process of their own, since a process that is
+started counts what the one that starts it holds.
 """
 import os
 import struct
@@ -18,7 +20,7 @@ LIMIT = 67_108_864
 FMP = bytes.fromhex("edd5cb6d2de8444cbda17194199ad92a")
 HERE = os.path.dirname(os.path.abspath(__file__))
 PROGRAM = os.path.join(HERE, "..", "crates", "capsule_tool", "out", "capsule_tool")
-RUNS = 5
+RUNS = 9
 
 
 def capsule(items, image_bytes):
@@ -32,35 +34,45 @@ def capsule(items, image_bytes):
 
 
 def measure(command, out):
-    """The least seconds and the greatest resident set, in KiB, of a command."""
+    """The least milliseconds and the greatest resident set, in bytes, of a command."""
     best, most = float("inf"), 0
     for _ in range(RUNS):
         with open(out, "wb") as sink:
             start = time.perf_counter()
-            child = subprocess.Popen(command, stdout=sink)
+            child = subprocess.Popen(command, stdout=sink, stderr=subprocess.DEVNULL)
             _, status, usage = os.wait4(child.pid, 0)
             best = min(best, time.perf_counter() - start)
         if status != 0:
             sys.exit(f"{command} ended with status {status}")
-        most = max(most, usage.ru_maxrss)
-    return best, most
+        most = max(most, usage.ru_maxrss * 1024)
+    return best * 1000, most
+
+
+def compare(program, path, copy):
+    """Prints what the program takes on a file, and what plain tools take."""
+    size = os.path.getsize(path)
+    cat, _ = measure(["cat", path], os.devnull)
+    whole, _ = measure(["dd", f"if={path}", "of=/dev/null", "bs=64M"], os.devnull)
+    cp, _ = measure(["cp", path, copy], os.devnull)
+    print(f"  cat {cat:.0f} ms, dd bs=64M {whole:.0f} ms, cp {cp:.0f} ms")
+    check, memory = measure([program, "check", path], os.devnull)
+    print(f"  check {check:.0f} ms: {check / cat:.1f} times cat, {check / whole:.1f} times dd bs=64M; memory {memory / size:.2f} times the file")
+    rebuild, memory = measure([program, "rebuild", path], copy)
+    print(f"  rebuild {rebuild:.0f} ms: {rebuild / cp:.1f} times cp, {rebuild / whole:.1f} times dd bs=64M; memory {memory / size:.2f} times the file")
 
 
 def main():
+    if sys.argv[1:2] == ["make"]:
+        with open(sys.argv[2], "wb") as file:
+            file.write(capsule(int(sys.argv[3]), int(sys.argv[4])))
+        return
     program = os.path.abspath(sys.argv[1] if len(sys.argv) > 1 else PROGRAM)
     with tempfile.TemporaryDirectory() as folder:
-        for name, items, image_bytes in [("one item", 1, LIMIT - 76), ("65,535 items", 65_535, 984)]:
+        for items, image_bytes in [(1, LIMIT - 76), (65_535, 984)]:
             path, copy = os.path.join(folder, "a.cap"), os.path.join(folder, "b.cap")
-            with open(path, "wb") as file:
-                file.write(capsule(items, image_bytes))
-            size = os.path.getsize(path)
-            cat, _ = measure(["cat", path], os.devnull)
-            cp, _ = measure(["cp", path, copy], os.devnull)
-            print(f"{name}: {size} bytes, cat {cat * 1000:.0f} ms, cp {cp * 1000:.0f} ms")
-            check, memory = measure([program, "check", path], os.devnull)
-            print(f"  check {check * 1000:.0f} ms, {check / cat:.1f} times cat, {memory * 1024 / size:.2f} times the file in memory")
-            rebuild, memory = measure([program, "rebuild", path], copy)
-            print(f"  rebuild {rebuild * 1000:.0f} ms, {rebuild / cp:.1f} times cp, {memory * 1024 / size:.2f} times the file in memory")
+            subprocess.run([sys.executable, __file__, "make", path, str(items), str(image_bytes)], check=True)
+            print(f"{items} items, {os.path.getsize(path)} bytes")
+            compare(program, path, copy)
 
 
 if __name__ == "__main__":

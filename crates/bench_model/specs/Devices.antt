@@ -6,6 +6,7 @@ use Rattle.cu_base.specs.declared.guid.Guid.{Guid}
 use Rattle.bench_model.specs.declared.limits.TheConstants.{MIN_CAPACITY, MAX_CAPACITY, MAX_INSTANCE, MAX_FW_TYPE}
 use Rattle.bench_model.specs.Names.{is_device_name}
 
+-- the fields of a device
 pub record DeviceValue : Type 0 where
   pub name : List ℕ
   pub type_id : Guid
@@ -25,6 +26,7 @@ pub record IsDevice (d : DeviceValue) : Type 0 where
   pub some_capacity : MIN_CAPACITY ≤ d.capacity
   pub capacity : d.capacity ≤ MAX_CAPACITY
 
+-- two devices have different names
 abbrev pub HaveOtherNames : DeviceValue → DeviceValue → Type 0
 HaveOtherNames a b = a.name ≢ b.name
 
@@ -32,6 +34,7 @@ HaveOtherNames a b = a.name ≢ b.name
 abbrev pub triple_of : DeviceValue → Guid × ℕ × ℕ
 triple_of d = (d.type_id, d.index, d.instance)
 
+-- two devices differ in type, index or instance
 abbrev pub HaveOtherTriples : DeviceValue → DeviceValue → Type 0
 HaveOtherTriples a b = triple_of a ≢ triple_of b
 

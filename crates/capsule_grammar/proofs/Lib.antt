@@ -5,5 +5,6 @@ pub mod Read
 pub mod Spelled
 pub mod SizeLemmas
 pub mod RebuiltLemmas
+pub mod SameLemmas
 pub mod Places
 pub mod BackLemmas

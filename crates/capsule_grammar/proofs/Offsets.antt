@@ -1,7 +1,7 @@
 -- What it means that no offset is refused.
-use Rattle.std.proofs.Common.{◌≡◌, ℕ, ◌+◌, ◌*◌, ◌-◌, ◌<◌, ◌≤◌, Bool, true, false, cond, ltb, leb, ◌||◌, ◌&&◌, List, length, Option, Some, None, refl, sym, ◌∙◌, arith, inl, inr}
-use Rattle.std.proofs.lemmas.Bool.{ltb-false, ltb-true, leb-false, lt-ltb, le-ltb, or_parts, and_cases, cases_lt, cond-true, cond-false, both_ways, cases_eq}
-use Rattle.cu_base.specs.Refusals.{Row, row, first_refusal}
+use Rattle.std.proofs.Common.{◌≡◌, ℕ, ◌+◌, ◌-◌, ◌<◌, ◌≤◌, ltb, leb, List, length, None, arith, inl, inr}
+use Rattle.std.proofs.lemmas.Bool.{ltb-false, leb-false, lt-ltb, le-ltb, or_parts, and_cases, cases_lt, cond-true, cond-false, both_ways}
+use Rattle.cu_base.specs.Refusals.{first_refusal}
 use Rattle.fmp_headers.proofs.Rows.{passed}
 use Rattle.capsule_grammar.specs.Refusals.{item_count, list_end, offset, bound, offset_rows, all_offset_rows}
 use Rattle.capsule_grammar.specs.Accepted.{AreBounds}

@@ -2,13 +2,13 @@
 use Rattle.std.proofs.Common.{◌≡◌, ℕ, zero, suc, ◌+◌, ◌*◌, ◌-◌, ◌^◌, ◌<◌, ◌≤◌, Bool, true, false, cond, List, [], ◌∷◌, ◌++◌, length, Option, Some, None, refl, sym, ap, ◌∙◌, ◌⊎◌, inl, inr, arith}
 use Rattle.std.specs.List.{flat_map, range_with_len, AllByRecursion}
 use Rattle.std.proofs.lemmas.Bool.{cases_Bool, cond-true, cond-false, ltb-false}
-use Rattle.cu_base.specs.Refusals.{Row, row, first_refusal}
+use Rattle.cu_base.specs.Refusals.{Row, first_refusal}
 use Rattle.cu_base.specs.declared.limits.TheConstants.{MAX_CAPSULE_BYTES}
 use Rattle.cu_base.specs.Fields.{field}
 use Rattle.fmp_headers.specs.Bytes.{IsBytes}
 use Rattle.fmp_headers.specs.CapsuleHeader.{header_size, image_size}
 use Rattle.fmp_headers.proofs.Rows.{passed}
-use Rattle.fmp_headers.proofs.Fields.{number_at-below, IsBytes-field, length-field}
+use Rattle.fmp_headers.proofs.Fields.{IsBytes-field, length-field}
 use Rattle.capsule_grammar.specs.declared.refusal.Why.{Why}
 use Rattle.capsule_grammar.specs.Refusals.{refusal, capsule_rows, is_fmp_guid, body_of, fmp_rows, fmp_header_rows, offset_rows, all_offset_rows, all_image_rows, image_rows, driver_count, image_count, item_count, list_end, bound, item}
 use Rattle.capsule_grammar.proofs.Offsets.{all_are_bounds}

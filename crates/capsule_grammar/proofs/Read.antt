@@ -1,31 +1,27 @@
 -- What is read is spelled: bytes of which no row holds are the spelling of the capsule that is read from them.
-use Rattle.std.proofs.Common.{◌≡◌, ℕ, zero, suc, ◌+◌, ◌*◌, ◌-◌, ◌^◌, ◌<◌, ◌≤◌, Bool, true, false, cond, not, ◌&&◌, ltb, leb, eqb, List, [], ◌∷◌, ◌++◌, length, get_or, take, drop, map, Option, Some, None, Result, Ok, Err, refl, sym, ap, subst, ◌∙◌, ◌⊎◌, inl, inr, arith, append_assoc, length-append}
+use Rattle.std.proofs.Common.{◌≡◌, ℕ, zero, suc, ◌+◌, ◌*◌, ◌-◌, ◌^◌, ◌<◌, ◌≤◌, true, cond, List, [], ◌++◌, length, take, drop, map, None, Ok, refl, sym, ap, ◌∙◌, inl, inr, arith, append_assoc}
 use Rattle.std.specs.List.{range_with_len, concat, list_all, flat_map, AllByRecursion}
-use Rattle.std.proofs.lemmas.Bool.{ltb-false, ltb-true, lt-ltb, le-leb, le-ltb, or_parts, and_from, eq-eqb, eqb-true, not-false, not_from_true, cases_Bool, cond-true, cond-false}
-use Rattle.std.proofs.lemmas.List.{take_all, length-take, take-append-drop, length-drop, length-map}
+use Rattle.std.proofs.lemmas.Bool.{ltb-false, lt-ltb, le-leb, le-ltb, or_parts, and_from, eq-eqb, eqb-true, not-false, not_from_true, cases_Bool, cond-true, cond-false}
+use Rattle.std.proofs.lemmas.List.{take_all, length-take, take-append-drop}
 use Rattle.std.proofs.lemmas.List.FromFn.{length-map-range_with_len}
 use Rattle.cu_base.specs.Fields.{field, number_at, bytes_of}
 use Rattle.cu_base.specs.Refusals.{first_refusal}
 use Rattle.cu_base.specs.declared.limits.TheConstants.{MAX_CAPSULE_BYTES}
 use Rattle.fmp_headers.specs.Bytes.{IsBytes}
-use Rattle.fmp_headers.specs.CapsuleHeader.{header_size, image_size, capsule_header, capsule_header_rows, capsule_header_fields, capsule_header_bytes}
+use Rattle.fmp_headers.specs.CapsuleHeader.{header_size, image_size, capsule_header_rows, capsule_header_fields, capsule_header_bytes}
 use Rattle.fmp_headers.specs.FmpHeader.{fmp_header_rows as fmp_header_refusals, fmp_header, fmp_header_fields, fmp_header_bytes}
-use Rattle.fmp_headers.specs.ImageHeader.{image_header, image_header_rows, image_header_fields, image_header_bytes, image_header_size, image_version, is_image_version, keeps_version_rules, IsImageHeader}
-use Rattle.fmp_headers.specs.declared.image.ImageHeader.{ImageHeader}
+use Rattle.fmp_headers.specs.ImageHeader.{image_header_rows, image_header_fields, image_header_bytes, image_header_size, image_version, IsImageHeader}
 use Rattle.fmp_headers.specs.declared.capsule.CapsuleHeader.{CapsuleHeader}
 use Rattle.fmp_headers.proofs.Rows.{passed, none_refused}
 use Rattle.fmp_headers.proofs.Headers.{header_given, capsule_header_back, fmp_header_back}
 use Rattle.fmp_headers.proofs.Images.{image_header_back, image_header_kept}
-use Rattle.fmp_headers.proofs.Fields.{length-field, next_field, take_field, bytes_of-number_at, number_at-below, IsBytes-field, IsBytes-take, IsBytes-drop}
-use Rattle.capsule_grammar.specs.declared.value.Image.{Image}
+use Rattle.fmp_headers.proofs.Fields.{length-field, next_field, take_field, bytes_of-number_at, number_at-below, IsBytes-field}
 use Rattle.capsule_grammar.specs.declared.value.Body.{Body}
 use Rattle.capsule_grammar.specs.declared.value.Body.TheVariants.{Other, Fmp}
-use Rattle.capsule_grammar.specs.declared.value.Capsule.{Capsule}
-use Rattle.capsule_grammar.specs.Values.{FmpValue}
-use Rattle.capsule_grammar.specs.Refusals.{refusal, rows, capsule_rows, is_fmp_guid, body_of, fmp_rows, fmp_header_rows, all_offset_rows, all_image_rows, image_rows, image_parts_size, driver_count, image_count, item_count, list_end, offset, bound, item}
+use Rattle.capsule_grammar.specs.Refusals.{refusal, capsule_rows, is_fmp_guid, body_of, fmp_rows, fmp_header_rows, all_offset_rows, all_image_rows, image_rows, driver_count, image_count, item_count, list_end, bound, item}
 use Rattle.capsule_grammar.specs.Accepted.{AreBounds, IsImageItem, IsFmpBody, IsFront}
 use Rattle.capsule_grammar.specs.Spelling.{image_bytes, item_bytes, offsets, fmp_bytes, body_bytes, spelling}
-use Rattle.capsule_grammar.specs.Fits.{is_nonempty, image_fits, fmp_fits, body_fits, fits, is_sized, HaveWidths, IsCapsule}
+use Rattle.capsule_grammar.specs.Fits.{is_nonempty, image_fits, fmp_fits, body_fits, HaveWidths, IsCapsule}
 use Rattle.capsule_grammar.specs.Reading.{image_of, fmp_of, body_read, capsule_of}
 use Rattle.capsule_grammar.proofs.Tables.{first-parts, each_in}
 use Rattle.capsule_grammar.proofs.Offsets.{all_are_bounds, bound_is, bound_ends}

@@ -1,7 +1,7 @@
 -- What is written again of a capsule.
-use Rattle.std.proofs.Common.{◌≡◌, ℕ, zero, suc, ◌+◌, ◌*◌, ◌-◌, ◌<◌, ◌≤◌, Bool, true, false, cond, ltb, List, [], ◌∷◌, ◌++◌, length, get_or, take, drop, map, Option, None, refl, sym, ap, ◌∙◌, ◌⊎◌, inl, inr, arith, append_assoc, length-append}
+use Rattle.std.proofs.Common.{◌≡◌, ℕ, ◌+◌, ◌-◌, ◌<◌, ◌≤◌, true, false, ltb, List, [], ◌++◌, length, get_or, take, drop, map, None, refl, sym, ap, ◌∙◌, inl, inr, arith, append_assoc}
 use Rattle.std.specs.List.{range_with_len, concat, flat_map}
-use Rattle.std.proofs.lemmas.Bool.{lt-ltb, le-ltb, cond-true, cond-false, cases_lt, cases_Bool}
+use Rattle.std.proofs.lemmas.Bool.{lt-ltb, le-ltb, cond-true, cond-false, cases_lt}
 use Rattle.std.proofs.lemmas.List.{append-nil, take_all, length-take}
 use Rattle.std.proofs.lemmas.List.FromFn.{length-map-range_with_len, get_or-map-range_with_len}
 use Rattle.cu_base.specs.Fields.{field, number_at, bytes_of}
@@ -12,18 +12,15 @@ use Rattle.fmp_headers.specs.ImageHeader.{image_header_fields, image_header_byte
 use Rattle.fmp_headers.specs.declared.capsule.CapsuleHeader.{CapsuleHeader}
 use Rattle.fmp_headers.proofs.Fields.{next_field, IsBytes-field, length-field}
 use Rattle.fmp_headers.proofs.Images.{image_header_back}
-use Rattle.capsule_grammar.specs.declared.value.Image.{Image}
 use Rattle.capsule_grammar.specs.declared.value.Body.{Body}
 use Rattle.capsule_grammar.specs.declared.value.Body.TheVariants.{Other, Fmp}
-use Rattle.capsule_grammar.specs.declared.value.Capsule.{Capsule}
-use Rattle.capsule_grammar.specs.Values.{FmpValue}
-use Rattle.capsule_grammar.specs.Accepted.{AreBounds, IsImageItem, IsFmpBody, IsFront}
+use Rattle.capsule_grammar.specs.Accepted.{IsImageItem, IsFmpBody, IsFront}
 use Rattle.capsule_grammar.specs.Refusals.{driver_count, image_count, item_count, list_end, bound, item, image_parts_size, is_fmp_guid, body_of, refusal}
 use Rattle.capsule_grammar.specs.Spelling.{image_bytes, item_bytes, fmp_bytes, offsets, first_place, header_of, body_bytes, spelling}
-use Rattle.capsule_grammar.specs.Reading.{image_of, fmp_of, body_read, capsule_of}
+use Rattle.capsule_grammar.specs.Reading.{image_of, fmp_of, capsule_of}
 use Rattle.capsule_grammar.specs.Rebuilt.{without_pad, emptied_fmp, emptied_body, emptied, with_body, kept, kept_items}
 use Rattle.capsule_grammar.proofs.Lists.{map_range, map-range-append, map-map-range, regroup}
-use Rattle.capsule_grammar.proofs.Read.{read_is_spelled, next_bound, same_header}
+use Rattle.capsule_grammar.proofs.Read.{read_is_spelled, next_bound}
 use Rattle.capsule_grammar.proofs.SizeLemmas.{length-fmp_bytes}
 use Rattle.capsule_grammar.proofs.Spelled.{place_next}
 
@@ -49,7 +46,7 @@ image_kept image is good =
     ∙ append-nil ((image_header_bytes (image_header_fields image) ++ field image size i) ++ field image (size + i) v)
     ∙ next_field image (image_header_bytes (image_header_fields image) ++ field image size i) (size + i) v (next_field image (image_header_bytes (image_header_fields image)) size i front)
 
-driver_kept : (body : List ℕ) (k : ℕ) → k < driver_count body → item body k ≡ kept body k
+pub driver_kept : (body : List ℕ) (k : ℕ) → k < driver_count body → item body k ≡ kept body k
 driver_kept body k lt = sym (cond-true (ltb k (driver_count body)) (item body k) (take (image_parts_size (item body k)) (item body k)) (lt-ltb k (driver_count body) lt))
 
 pub kept_image : (body : List ℕ) (k : ℕ) → driver_count body ≤ k → kept body k ≡ take (image_parts_size (item body k)) (item body k)
@@ -79,7 +76,7 @@ length-kept_items body = length-map-range_with_len (kept body) 0 (item_count bod
 pub kept_at : (body : List ℕ) (k : ℕ) → k < item_count body → get_or (kept_items body) k [] ≡ kept body k
 kept_at body k lt = get_or-map-range_with_len (kept body) 0 (item_count body) k k [] lt (omega arith)
 
-kept_within : (body : List ℕ) (k : ℕ) → length (kept body k) ≤ length (item body k)
+pub kept_within : (body : List ℕ) (k : ℕ) → length (kept body k) ≤ length (item body k)
 kept_within body k =
     elim (cases_lt k (driver_count body)) [
       | inl low ↦ rw (← driver_kept body k low) (omega arith)
@@ -90,7 +87,7 @@ kept_within body k =
 pub kept_before : (body : List ℕ) (k size : ℕ) → IsFmpBody body → k < item_count body → size ≤ bound body k → size + length (kept body k) ≤ bound body (k + 1)
 kept_before body k size good lt le = omega (arith, kept_within body k, next_bound body k good.bounds lt)
 
-same_parts : (d d' i i' f f' : ℕ) (items items' : List (List ℕ)) → d ≡ d' → i ≡ i' → f ≡ f' → items ≡ items'
+pub same_parts : (d d' i i' f f' : ℕ) (items items' : List (List ℕ)) → d ≡ d' → i ≡ i' → f ≡ f' → items ≡ items'
     → fmp_header_bytes (record { drivers = d; items = i }) ++ (flat_map (bytes_of 8) (offsets f items) ++ ([] ++ concat items)) ≡ fmp_header_bytes (record { drivers = d'; items = i' }) ++ (flat_map (bytes_of 8) (offsets f' items') ++ concat items')
 same_parts d d' i i' f f' items items' ed ei ef e = rw (ed, ei, ef, e) refl
 

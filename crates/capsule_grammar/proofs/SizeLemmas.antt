@@ -7,7 +7,7 @@ use Rattle.cu_base.specs.Fields.{bytes_of}
 use Rattle.fmp_headers.specs.FmpHeader.{fmp_header_bytes}
 use Rattle.capsule_grammar.specs.Values.{FmpValue}
 use Rattle.capsule_grammar.specs.Spelling.{item_bytes, offsets, fmp_bytes, first_place}
-use Rattle.capsule_grammar.proofs.Spelled.{place, place_next, place_within, length-offsets, length-list}
+use Rattle.capsule_grammar.proofs.Spelled.{place_next, place_within, length-offsets, length-list}
 
 pub size_more : (base : ℕ) (items : List (List ℕ)) (k size item : ℕ) → k < length items → size ≡ min (base + length (concat (take k items))) (2 ^ 64 - 1) → item ≡ min (length (get_or items k [])) (2 ^ 64 - 1) → min (size + item) (2 ^ 64 - 1) ≡ min (base + length (concat (take (k + 1) items))) (2 ^ 64 - 1)
 size_more base items k size item lt so_far here = omega (arith, place_next base items k lt)

@@ -1,35 +1,35 @@
 -- What is spelled is read: of a spelling no row holds, whatever follows it, and the capsule is read from it again.
-use Rattle.std.proofs.Common.{◌≡◌, ℕ, zero, suc, ◌+◌, ◌*◌, ◌-◌, ◌^◌, ◌<◌, ◌≤◌, Bool, true, false, cond, not, ◌&&◌, ◌||◌, ltb, leb, eqb, List, [], ◌∷◌, ◌++◌, length, get_or, take, drop, map, Option, Some, None, Result, Ok, Err, refl, sym, ap, subst, ◌∙◌, ◌⊎◌, inl, inr, arith, append_assoc, length-append, All}
+use Rattle.std.proofs.Common.{◌≡◌, ℕ, zero, suc, ◌+◌, ◌*◌, ◌-◌, ◌^◌, ◌<◌, ◌≤◌, Bool, true, false, cond, ◌&&◌, ltb, leb, List, [], ◌∷◌, ◌++◌, length, get_or, take, drop, map, None, Ok, refl, sym, ap, subst, ◌∙◌, inl, inr, arith, append_assoc, length-append}
 use Rattle.std.specs.List.{range_with_len, concat, list_all, flat_map, AllByRecursion}
-use Rattle.std.proofs.lemmas.Bool.{ltb-false, ltb-true, lt-ltb, le-leb, leb-true, le-ltb, lt-leb, or_parts, or_from, and_parts, and_left, and_right, and_from, eq-eqb, eqb-true, not-false, not_from_true, cases_Bool, cases_lt, cond-true, cond-false}
-use Rattle.std.proofs.lemmas.List.{take_all, take-append-drop, length-drop, length-map, length-take, drop_more, take_more, take_at, drop_at, same_lists, ext_get_or, get_or_append_left, get_or-append_right, get_or-map, take-append-le, append-nil, nil_from_length}
+use Rattle.std.proofs.lemmas.Bool.{ltb-false, ltb-true, leb-true, le-ltb, lt-leb, or_from, and_parts, and_left, and_right, eq-eqb, eqb-true, not-false, not_from_true, cases_lt}
+use Rattle.std.proofs.lemmas.List.{take_all, take-append-drop, length-map, drop_more, take_more, drop_at, same_lists, ext_get_or, get_or_append_left, get_or-append_right, append-nil, nil_from_length}
 use Rattle.std.proofs.lemmas.List.Folds.{concat-append}
 use Rattle.std.proofs.lemmas.List.FromFn.{length-map-range_with_len, get_or-map-range_with_len}
-use Rattle.cu_base.specs.Fields.{field, number, number_at, bytes_of}
+use Rattle.cu_base.specs.Fields.{field, number_at, bytes_of}
 use Rattle.cu_base.specs.Refusals.{first_refusal}
 use Rattle.cu_base.specs.declared.limits.TheConstants.{MAX_CAPSULE_BYTES}
 use Rattle.fmp_headers.specs.CapsuleHeader.{header_size, image_size, capsule_header, capsule_header_rows, capsule_header_fields, capsule_header_bytes}
-use Rattle.fmp_headers.specs.FmpHeader.{fmp_header, fmp_header_fields, fmp_header_bytes, fmp_header_rows as fmp_header_refusals}
-use Rattle.fmp_headers.specs.ImageHeader.{image_header, image_header_rows, image_header_fields, image_header_bytes, image_header_size, image_version, is_image_version, keeps_version_rules, IsImageHeader}
+use Rattle.fmp_headers.specs.FmpHeader.{fmp_header_fields, fmp_header_bytes, fmp_header_rows as fmp_header_refusals}
+use Rattle.fmp_headers.specs.ImageHeader.{image_header_rows, image_header_fields, image_header_bytes, image_header_size, IsImageHeader}
 use Rattle.fmp_headers.specs.declared.image.ImageHeader.{ImageHeader}
 use Rattle.fmp_headers.specs.declared.fmp.FmpHeader.{FmpHeader}
 use Rattle.fmp_headers.specs.declared.capsule.CapsuleHeader.{CapsuleHeader}
 use Rattle.fmp_headers.proofs.Rows.{passed, none_refused}
 use Rattle.fmp_headers.proofs.Headers.{header_or_ok, capsule_header_again, fmp_header_again}
 use Rattle.fmp_headers.proofs.Images.{image_header_again, length-image_header_bytes}
-use Rattle.fmp_headers.proofs.Fields.{length-field, field_in, number_at_in, length-bytes_of}
+use Rattle.fmp_headers.proofs.Fields.{field_in, number_at_in, length-bytes_of}
 use Rattle.capsule_grammar.specs.declared.value.Image.{Image}
 use Rattle.capsule_grammar.specs.declared.value.Body.{Body}
 use Rattle.capsule_grammar.specs.declared.value.Body.TheVariants.{Other, Fmp}
 use Rattle.capsule_grammar.specs.declared.value.Capsule.{Capsule}
 use Rattle.capsule_grammar.specs.Values.{FmpValue}
-use Rattle.capsule_grammar.specs.Refusals.{refusal, rows, capsule_rows, is_fmp_guid, body_of, fmp_rows, fmp_header_rows, offset_rows, all_offset_rows, all_image_rows, image_rows, image_parts_size, driver_count, image_count, item_count, list_end, offset, bound, item}
+use Rattle.capsule_grammar.specs.Refusals.{refusal, capsule_rows, is_fmp_guid, body_of, fmp_rows, fmp_header_rows, offset_rows, all_offset_rows, all_image_rows, image_rows, image_parts_size, driver_count, image_count, item_count, list_end, offset, bound, item}
 use Rattle.capsule_grammar.specs.Spelling.{image_bytes, item_bytes, offsets, fmp_bytes, body_bytes, first_place, header_of, spelling}
-use Rattle.capsule_grammar.specs.Fits.{is_nonempty, image_fits, fmp_fits, body_fits, fits, is_sized, HaveWidths, IsCapsule}
-use Rattle.capsule_grammar.specs.Reading.{image_of, fmp_of, body_read, capsule_of}
+use Rattle.capsule_grammar.specs.Fits.{is_nonempty, image_fits, fmp_fits, body_fits, HaveWidths, IsCapsule}
+use Rattle.capsule_grammar.specs.Reading.{image_of, fmp_of, capsule_of}
 use Rattle.capsule_grammar.proofs.Tables.{first-none, none_in}
 use Rattle.capsule_grammar.proofs.Offsets.{bound_is, bound_ends}
-use Rattle.capsule_grammar.proofs.Lists.{append_both, regroup}
+use Rattle.capsule_grammar.proofs.Lists.{regroup}
 
 -- ---- an image
 

@@ -10,6 +10,7 @@ use Rattle.capsule_grammar.specs.Fits.{IsCapsule}
 use Rattle.capsule_grammar.specs.Refusals.{refusal}
 use Rattle.capsule_grammar.specs.Spelling.{spelling}
 
+-- the bytes are the spellings of these capsules, one to eight of them, and nothing more
 pub record SpellsAll (capsules : List Capsule) (bytes : List ℕ) : Type 0 where
   pub some : 0 < length capsules
   pub few : length capsules ≤ 8

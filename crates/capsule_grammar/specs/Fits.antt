@@ -11,6 +11,7 @@ use Rattle.capsule_grammar.specs.Values.{FmpValue}
 use Rattle.capsule_grammar.specs.Refusals.{is_fmp_guid}
 use Rattle.capsule_grammar.specs.Spelling.{spelling}
 
+-- there is a byte
 abbrev pub is_nonempty : List ℕ → Bool
 is_nonempty bytes = nat_lt 0 (length bytes)
 
@@ -33,6 +34,8 @@ body_fits true (Other blob) = false
 body_fits false (Fmp b) = false
 body_fits false (Other blob) = true
 
+-- the capsule fits: its body is that of an FMP capsule exactly where its GUID says so, with counts, sizes and headers
+-- that a spelling can tell
 abbrev pub fits : Capsule → Bool
 fits c = body_fits (is_fmp_guid c.guid.bytes) c.body
 

@@ -11,6 +11,7 @@ use Rattle.capsule_grammar.specs.declared.value.Capsule.{Capsule}
 use Rattle.capsule_grammar.specs.Values.{FmpValue}
 use Rattle.capsule_grammar.specs.Refusals.{is_fmp_guid, body_of, driver_count, image_count, list_end, bound, item, image_parts_size}
 
+-- the image in the bytes of an item
 abbrev pub image_of : List ℕ → Image
 image_of item = record {
   header = image_header_fields item;
@@ -19,6 +20,7 @@ image_of item = record {
   pad = drop (image_parts_size item) item;
 }
 
+-- the parts in the body of an FMP capsule
 abbrev pub fmp_of : List ℕ → FmpValue
 fmp_of body = record {
   lead = field body (list_end body) (bound body 0 - list_end body);
@@ -26,9 +28,11 @@ fmp_of body = record {
   images = map (λ k. image_of (item body k)) (range_with_len (driver_count body) (image_count body));
 }
 
+-- the body, by the GUID
 abbrev pub body_read : List ℕ → Body
 body_read bytes = if is_fmp_guid (field bytes 0 16) then Fmp (fmp_of (body_of bytes)) else Other (body_of bytes)
 
+-- the capsule at the front of bytes that are not refused
 abbrev pub capsule_of : List ℕ → Capsule
 capsule_of bytes = record {
   guid = record { bytes = field bytes 0 16 };

@@ -10,16 +10,20 @@ use Rattle.capsule_grammar.specs.declared.value.Capsule.{Capsule}
 use Rattle.capsule_grammar.specs.Values.{FmpValue}
 use Rattle.capsule_grammar.specs.Refusals.{driver_count, item_count, item, image_parts_size}
 
+-- an image with an empty pad
 abbrev pub without_pad : Image → Image
 without_pad i = record { header = i.header; image = i.image; vendor = i.vendor; pad = [] }
 
+-- a body with an empty lead and empty pads
 abbrev pub emptied_fmp : FmpValue → FmpValue
 emptied_fmp b = record { lead = []; drivers = b.drivers; images = map without_pad b.images }
 
+-- the same of any body
 abbrev pub emptied_body : Body → Body
 emptied_body (Other blob) = Other blob
 emptied_body (Fmp b) = Fmp (emptied_fmp b)
 
+-- the same of a capsule
 abbrev pub emptied : Capsule → Capsule
 emptied c = record { guid = c.guid; flags = c.flags; ext = c.ext; body = emptied_body c.body }
 
@@ -31,5 +35,6 @@ with_body bytes body = record { guid = record { bytes = field bytes 0 16 }; flag
 abbrev pub kept : List ℕ → ℕ → List ℕ
 kept body k = if nat_lt k (driver_count body) then item body k else take (image_parts_size (item body k)) (item body k)
 
+-- what is kept of each item, in order
 abbrev pub kept_items : List ℕ → List (List ℕ)
 kept_items body = map (kept body) (range_with_len 0 (item_count body))

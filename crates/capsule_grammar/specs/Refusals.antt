@@ -17,6 +17,7 @@ use Rattle.capsule_grammar.specs.declared.refusal.Why.TheVariants.{Short, BadHea
 
 -- ---- the capsule header
 
+-- the rows of the capsule header
 abbrev pub capsule_rows : List ℕ → List (Row Why)
 capsule_rows bytes =
     row (is_short bytes) 0 Short
@@ -28,14 +29,17 @@ capsule_rows bytes =
 abbrev pub is_fmp_guid : List ℕ → Bool
 is_fmp_guid guid = bytes_eq guid FMP_CAPSULE_GUID.bytes
 
+-- the bytes from HeaderSize to CapsuleImageSize
 abbrev pub body_of : List ℕ → List ℕ
 body_of bytes = field bytes (header_size bytes) (image_size bytes - header_size bytes)
 
 -- ---- the body of an FMP capsule
 
+-- EmbeddedDriverCount
 abbrev pub driver_count : List ℕ → ℕ
 driver_count body = number_at body 4 2
 
+-- PayloadItemCount
 abbrev pub image_count : List ℕ → ℕ
 image_count body = number_at body 6 2
 
@@ -47,6 +51,7 @@ item_count body = driver_count body + image_count body
 abbrev pub list_end : List ℕ → ℕ
 list_end body = 8 + 8 * item_count body
 
+-- offset k of the list
 abbrev pub offset : List ℕ → ℕ → ℕ
 offset body k = number_at body (8 + 8 * k) 8
 
@@ -58,6 +63,7 @@ bound body k = if nat_lt k (item_count body) then offset body k else length body
 abbrev pub item : List ℕ → ℕ → List ℕ
 item body k = field body (bound body k) (bound body (k + 1) - bound body k)
 
+-- the rows of FMP header and offset list
 abbrev pub fmp_header_rows : List ℕ → ℕ → List (Row Why)
 fmp_header_rows body at =
     row (nat_lt (length body) 8) at Short
@@ -65,6 +71,7 @@ fmp_header_rows body at =
     ∷ row (nat_lt (length body) (list_end body)) (at + 8) Short
     ∷ []
 
+-- the rows of offset k: outside, then not above the one before
 abbrev pub offset_rows : List ℕ → ℕ → ℕ → List (Row Why)
 offset_rows body at k =
     row (nat_lt (offset body k) (list_end body) || nat_lt (length body) (offset body k)) (at + 8 + 8 * k) OffsetsOutside
@@ -75,6 +82,7 @@ offset_rows body at k =
 abbrev pub image_parts_size : List ℕ → ℕ
 image_parts_size image = image_header_size (image_version image) + number_at image 24 4 + number_at image 28 4
 
+-- the rows of an image item
 abbrev pub image_rows : List ℕ → ℕ → List (Row Why)
 image_rows image at =
     row (nat_lt (length image) 32) at Short
@@ -98,6 +106,7 @@ fmp_rows body at = fmp_header_rows body at ++ (all_offset_rows body at ++ all_im
 
 -- ---- the whole table
 
+-- the whole table of some bytes
 abbrev pub rows : List ℕ → List (Row Why)
 rows bytes = capsule_rows bytes ++ (if is_fmp_guid (field bytes 0 16) then fmp_rows (body_of bytes) (header_size bytes) else [])
 

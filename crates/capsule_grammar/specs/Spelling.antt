@@ -37,6 +37,7 @@ fmp_bytes b =
     let list = flat_map (bytes_of 8) (offsets (first_place b) (item_bytes b)) in
     header ++ (list ++ (b.lead ++ concat (item_bytes b)))
 
+-- the bytes of a body
 abbrev pub body_bytes : Body → List ℕ
 body_bytes (Other blob) = blob
 body_bytes (Fmp b) = fmp_bytes b

@@ -2,6 +2,7 @@
 use Rattle.std.specs.Prelude.{ℕ, List}
 use Rattle.capsule_grammar.specs.declared.value.Image.{Image}
 
+-- lead, drivers and images of an FMP capsule
 pub record FmpValue : Type 0 where
   pub lead : List ℕ
   pub drivers : List (List ℕ)

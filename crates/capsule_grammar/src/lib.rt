@@ -30,6 +30,6 @@ pub use decoding::decode;
 pub use encoding::encode;
 pub use faults::{DecodeFault, EncodeFault};
 pub use fitting::fits;
-pub use rebuilding::rebuild;
+pub use rebuilding::{is_rebuilt, rebuild};
 pub use refusal::{Refusal, Why};
 pub use value::{Body, Capsule, Capsules, FmpBody, Image, Images};

@@ -1,9 +1,10 @@
 //! The capsule at the front of bytes, written again without its lead and its pads. No body is copied but
 //! into the result.
 
-ghost use Rattle.std.specs.Prelude.{◌≡◌, ◌+◌, ◌<◌, ◌≤◌, ◌++◌, ◌^◌, None, length, IfOk, IfErr, OnOk};
+ghost use Rattle.std.specs.Prelude.{◌≡◌, ◌↔◌, true, take, ◌+◌, ◌<◌, ◌≤◌, ◌++◌, ◌^◌, None, length, IfOk, IfErr, OnOk};
 ghost use Rattle.std.specs.List.{concat, flat_map};
 ghost use Rattle.cu_base.specs.Fields.{bytes_of};
+ghost use Rattle.fmp_headers.specs.CapsuleHeader.{image_size};
 ghost use Rattle.capsule_grammar.specs.Accepted.{IsFront, IsFmpBody, IsImageItem};
 ghost use Rattle.capsule_grammar.specs.Faults.{IsRefusal};
 ghost use Rattle.capsule_grammar.specs.Reading.{capsule_of, fmp_of};
@@ -32,6 +33,19 @@ pub fn rebuild(alloc: Global, bytes: &[u8]) -> Result<Blob, DecodeFault>
     } else {
         Ok(Blob::from_slice(alloc, &bytes[..size])?)
     }
+}
+
+/// Whether the capsule at the front has neither a lead nor a pad, so that a rebuild leaves its bytes as
+/// they are.
+pub fn is_rebuilt(bytes: &[u8]) -> bool
+    requires { refusal bytes.now ≡ None }
+    ensures { result ≡ true ↔ spelling (emptied (capsule_of bytes.now)) ≡ take (image_size bytes.now) bytes.now }
+{
+    if !is_fmp_guid(&guid_at(bytes, 0)) {
+        return true;
+    }
+    let body = &bytes[u32_at(bytes, 16) as usize..u32_at(bytes, 24) as usize];
+    kept_size(body) as usize == body.len()
 }
 
 fn rebuild_fmp(alloc: Global, bytes: &[u8]) -> Result<Blob, NoMemory>

@@ -1,9 +1,10 @@
 //! Capsules written by hand from the tables of UEFI 2.10, 8.5.3 and 23.3.2.
 
 use crate::{
-    Body, Capsule, DecodeFault, Refusal, Why, check, decode, decode_all, encode, fits, rebuild,
+    Body, Capsule, DecodeFault, Refusal, Why, check, decode, decode_all, encode, fits, is_rebuilt,
+    rebuild,
 };
-use cu_base::Blob;
+use cu_base::{Blob, put_u16, put_u32, put_u64};
 use std::alloc::Global;
 use std::process::Abort;
 use std::test::Fail;
@@ -111,6 +112,108 @@ fn prefixes_are_refused(rt: HostRuntime) -> Result<(), Fail> {
     Ok(())
 }
 
+#[test]
+fn offsets_outside_or_at_another_header(rt: HostRuntime) -> Result<(), Fail> {
+    let alloc = rt.alloc();
+    let before = with_offset(alloc, 0x0f)?;
+    refused(&rt, before.as_slice(), 36, Why::OffsetsOutside);
+    let last_byte = with_offset(alloc, 0x4b)?;
+    refused(&rt, last_byte.as_slice(), 103, Why::Short);
+    let cut_header = with_offset(alloc, 0x4a)?;
+    refused(&rt, cut_header.as_slice(), 102, Why::Short);
+    Ok(())
+}
+
+/// The capsule of 110 bytes with another offset of its item.
+fn with_offset(alloc: Global, offset: u8) -> Result<Blob, Fail> {
+    let mut body = Blob::from_slice(alloc, &[1, 0, 0, 0, 0, 0, 1, 0])?;
+    body.push_slice(&[offset, 0, 0, 0, 0, 0, 0, 0])?;
+    body.push_slice(&IMAGE)?;
+    capsule(alloc, 28, 110, body.as_slice())
+}
+
+/// A capsule of FMP with this many drivers of one byte and images of version 1 without bytes.
+fn many_items(alloc: Global, drivers: u16, images: u16) -> Result<Blob, Fail> {
+    let (drivers, images) = (drivers as u32, images as u32);
+    let items = drivers + images;
+    let mut bytes = Blob::from_slice(alloc, &FMP)?;
+    bytes.push_slice(&[28, 0, 0, 0, 0, 0, 5, 0])?;
+    put_u32(&mut bytes, 28 + 8 + 8 * items + drivers + 32 * images)?;
+    put_u32(&mut bytes, 1)?;
+    put_u16(&mut bytes, drivers as u16)?;
+    put_u16(&mut bytes, images as u16)?;
+    for k in 0..items {
+        let in_front = k.min(drivers) + 32 * (k - k.min(drivers));
+        put_u64(&mut bytes, (8 + 8 * items + in_front) as u64)?;
+    }
+    for _ in 0..drivers {
+        bytes.push_slice(&[0x55])?;
+    }
+    for _ in 0..images {
+        bytes.push_slice(&[1, 0, 0, 0])?;
+        bytes.push_slice(&[0; 28])?;
+    }
+    Ok(bytes)
+}
+
+/// It is accepted, and read and written again.
+fn all_items_are_read(
+    rt: &impl Abort,
+    alloc: Global,
+    bytes: &Blob,
+    drivers: usize,
+    images: usize,
+) -> Result<(), Fail> {
+    accepted(rt, bytes, bytes.len());
+    let (read, size) = decode(alloc, bytes.as_slice())?;
+    assert_eq!(rt; size, bytes.len());
+    if let Body::Fmp(fmp) = &read.body {
+        assert_eq!(rt; fmp.drivers.len(), drivers);
+        assert_eq!(rt; fmp.images.len(), images);
+    } else {
+        assert!(rt; false);
+    }
+    written_again(rt, &read, alloc, bytes.as_slice())?;
+    let rebuilt = rebuild(alloc, bytes.as_slice())?;
+    assert_eq!(rt; rebuilt.as_slice(), bytes.as_slice());
+    Ok(())
+}
+
+#[test]
+fn sixteen_items(rt: HostRuntime) -> Result<(), Fail> {
+    let bytes = many_items(rt.alloc(), 0, 16)?;
+    all_items_are_read(&rt, rt.alloc(), &bytes, 0, 16)
+}
+
+#[test]
+fn the_most_items_and_drivers(rt: HostRuntime) -> Result<(), Fail> {
+    let images = many_items(rt.alloc(), 0, 65_535)?;
+    all_items_are_read(&rt, rt.alloc(), &images, 0, 65_535)?;
+    let drivers = many_items(rt.alloc(), 65_535, 0)?;
+    all_items_are_read(&rt, rt.alloc(), &drivers, 65_535, 0)
+}
+
+#[test]
+fn an_empty_driver_may_be_last(rt: HostRuntime) -> Result<(), Fail> {
+    let alloc = rt.alloc();
+    let mut body = Blob::from_slice(alloc, &[1, 0, 0, 0, 2, 0, 0, 0])?;
+    body.push_slice(&[24, 0, 0, 0, 0, 0, 0, 0, 25, 0, 0, 0, 0, 0, 0, 0, 0x55])?;
+    let bytes = capsule(alloc, 28, 53, body.as_slice())?;
+    all_items_are_read(&rt, alloc, &bytes, 2, 0)
+}
+
+#[test]
+fn sizes_whose_sum_passes_32_bits(rt: HostRuntime) -> Result<(), Fail> {
+    let alloc = rt.alloc();
+    let mut body = Blob::from_slice(alloc, &[1, 0, 0, 0, 0, 0, 1, 0, 16, 0, 0, 0, 0, 0, 0, 0])?;
+    body.push_slice(&[1, 0, 0, 0])?;
+    body.push_slice(&[0; 20])?;
+    body.push_slice(&[0xff, 0xff, 0xff, 0xff, 1, 0, 0, 0])?;
+    let bytes = capsule(alloc, 28, 76, body.as_slice())?;
+    refused(&rt, bytes.as_slice(), 68, Why::ImageOutside);
+    Ok(())
+}
+
 /// The bytes of a capsule are those that it was read from.
 fn written_again(
     rt: &impl Abort,
@@ -149,6 +252,14 @@ fn a_lead_and_a_pad_are_kept(rt: HostRuntime) -> Result<(), Fail> {
     Ok(())
 }
 
+/// Whether a rebuild leaves an accepted capsule as it is.
+fn stays(bytes: &[u8]) -> Option<bool> {
+    match check(bytes) {
+        Ok(_) => Some(is_rebuilt(bytes)),
+        Err(_) => None,
+    }
+}
+
 #[test]
 fn a_rebuild_has_no_lead_and_no_pad(rt: HostRuntime) -> Result<(), Fail> {
     let alloc = rt.alloc();
@@ -166,6 +277,8 @@ fn a_rebuild_has_no_lead_and_no_pad(rt: HostRuntime) -> Result<(), Fail> {
     let wanted = capsule(alloc, 28, 76, left.as_slice())?;
     let rebuilt = rebuild(alloc, bytes.as_slice())?;
     assert_eq!(rt; rebuilt.as_slice(), wanted.as_slice());
+    assert_eq!(rt; stays(bytes.as_slice()), Some(false));
+    assert_eq!(rt; stays(wanted.as_slice()), Some(true));
     Ok(())
 }
 

@@ -5,6 +5,7 @@ use Rattle.std.specs.Prelude.{ℕ, ◌+◌, ◌-◌, ◌≤◌, ◌^◌, min, Re
 abbrev pub RoseBy : ℕ → ℕ → ℕ → Type 0
 RoseBy n before now = min (before + n) (2 ^ 64 - 1) ≤ now
 
+-- a count rose by at least one, or it stands at its last value
 abbrev pub Rose : ℕ → ℕ → Type 0
 Rose = RoseBy 1
 

@@ -12,6 +12,7 @@ abbrev pub fields_reversed : List ℕ → List ℕ
 fields_reversed bytes =
     reverse (field bytes 0 4) ++ reverse (field bytes 4 2) ++ reverse (field bytes 6 2) ++ field bytes 8 8
 
+-- the GUID whose text shows these bytes
 abbrev pub guid_of : List ℕ → Guid
 guid_of shown = record { bytes = fields_reversed shown }
 

@@ -7,6 +7,7 @@ pub record Row (W : Type 0) : Type 0 where
   pub at : ℕ
   pub why : W
 
+-- a row of its test, place and cause
 abbrev pub row : {W : Type 0} → Bool → ℕ → W → Row W
 row holds at why = record { holds = holds; at = at; why = why }
 

@@ -33,6 +33,7 @@ time_at_front bytes = record {
 abbrev pub is_leap : ℕ → Bool
 is_leap year = (year % 4 == 0) && (not (year % 100 == 0) || (year % 400 == 0))
 
+-- how many days a month has
 abbrev pub days_in : ℕ → ℕ → ℕ
 days_in year month =
     if month == 2 then (if is_leap year then 29 else 28)
@@ -76,6 +77,7 @@ moment year month day hour minute second = record {
   pad2 = 0;
 }
 
+-- what the second makes of the first, where that is there
 infixl 10 ◌>>=◌
 abbrev pub ◌>>=◌ : {A B : Type 0} → Option A → (A → Option B) → Option B
 o >>= f = option_and_then f o
@@ -92,6 +94,7 @@ moment_shown text = do
   second ← two_digits text 17
   Some (moment (100 * century + year) month day hour minute second)
 
+-- the moment, where it is of the calendar
 abbrev pub where_in_calendar : EfiTime → Option EfiTime
 where_in_calendar time = if is_in_calendar time then Some time else None
 
@@ -104,6 +107,7 @@ time_of_text text =
 abbrev pub digits_of : ℕ → List ℕ
 digits_of n = (48 + n / 10) ∷ (48 + n % 10) ∷ []
 
+-- the text YYYY-MM-DDThh:mm:ss of a moment
 abbrev pub time_text : EfiTime → List ℕ
 time_text time =
     digits_of (time.year / 100) ++ digits_of (time.year % 100) ++ 45 ∷ digits_of time.month ++ 45 ∷ digits_of time.day

@@ -8,9 +8,11 @@ use Rattle.fmp_headers.specs.declared.capsule.CapsuleHeader.{CapsuleHeader}
 use Rattle.fmp_headers.specs.declared.faults.HeaderFault.{HeaderFault}
 use Rattle.fmp_headers.specs.declared.faults.HeaderFault.TheVariants.{Short, BadHeaderSize, BadImageSize}
 
+-- HeaderSize, the number at 16
 abbrev pub header_size : List ℕ → ℕ
 header_size bytes = number_at bytes 16 4
 
+-- CapsuleImageSize, the number at 24
 abbrev pub image_size : List ℕ → ℕ
 image_size bytes = number_at bytes 24 4
 
@@ -26,6 +28,7 @@ has_bad_header_size bytes = nat_lt (header_size bytes) 28 || nat_lt (image_size 
 abbrev pub is_above_limit : List ℕ → Bool
 is_above_limit bytes = nat_lt MAX_CAPSULE_BYTES (image_size bytes)
 
+-- when a capsule header is refused, in order
 abbrev pub capsule_header_rows : List ℕ → List (Row HeaderFault)
 capsule_header_rows bytes =
     row (is_short bytes) 0 Short

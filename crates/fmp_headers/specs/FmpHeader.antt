@@ -8,6 +8,7 @@ use Rattle.fmp_headers.specs.declared.fmp.FmpHeader.{FmpHeader}
 use Rattle.fmp_headers.specs.declared.faults.HeaderFault.{HeaderFault}
 use Rattle.fmp_headers.specs.declared.faults.HeaderFault.TheVariants.{Short, BadFmpVersion}
 
+-- when an FMP header is refused: below 8 bytes, then where Version is not 1
 abbrev pub fmp_header_rows : List ℕ → List (Row HeaderFault)
 fmp_header_rows bytes =
     row (nat_lt (length bytes) 8) 0 Short

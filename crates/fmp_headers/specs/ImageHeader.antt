@@ -10,9 +10,11 @@ use Rattle.fmp_headers.specs.declared.image.ImageHeader.{ImageHeader}
 use Rattle.fmp_headers.specs.declared.faults.HeaderFault.{HeaderFault}
 use Rattle.fmp_headers.specs.declared.faults.HeaderFault.TheVariants.{Short, BadImageVersion}
 
+-- Version, the number at 0
 abbrev pub image_version : List ℕ → ℕ
 image_version bytes = number_at bytes 0 4
 
+-- version 1, 2 or 3
 abbrev pub is_image_version : ℕ → Bool
 is_image_version version = version == 1 || version == 2 || version == 3
 
@@ -20,6 +22,7 @@ is_image_version version = version == 1 || version == 2 || version == 3
 abbrev pub image_header_size : ℕ → ℕ
 image_header_size version = if version == 1 then 32 else if version == 2 then 40 else 48
 
+-- when an image header is refused: below 32 bytes, then an unknown version, then below the bytes of that version
 abbrev pub image_header_rows : List ℕ → List (Row HeaderFault)
 image_header_rows bytes =
     row (nat_lt (length bytes) 32) 0 Short

@@ -23,6 +23,7 @@ use Rattle.recipe_files.specs.Values.{number_in, entries_in}
 use Rattle.recipe_files.specs.Digests.{digest_of, digest_test}
 use Rattle.recipe_files.specs.Devices.{device_of, entry_tests}
 
+-- the tests of a document, in the order of the keys
 abbrev pub board_tests : Members → List (Option Fault)
 board_tests table =
     key_test Bank table
@@ -55,13 +56,16 @@ abbrev pub board_or : Option Fault → BoardValue → Result BoardValue (BadKind
 board_or None board = Ok board
 board_or (Some fault) board = Err (fault.kind, key_name fault.key)
 
+-- the fault of a text that is no document
 abbrev pub no_document : Fault
 no_document = record { kind = BadToml; key = Whole }
 
+-- the fault of a text as a document
 abbrev pub document_test : Option Members → Option Fault
 document_test None = Some no_document
 document_test (Some table) = board_test table
 
+-- the board of a text without a fault
 abbrev pub board_of : Option Members → Result BoardValue (BadKind × List ℕ)
 board_of None = Err (BadToml, key_name Whole)
 board_of (Some table) = board_or (board_test table) (board_in table)

@@ -12,6 +12,7 @@ use Rattle.recipe_files.specs.Faults.{fault_if, first_fault}
 use Rattle.recipe_files.specs.Tests.{key_test}
 use Rattle.recipe_files.specs.Values.{number_in, text_in, guid_in}
 
+-- the tests of the keys behind name and triple
 abbrev pub factory_tests : Members → List (Option Fault)
 factory_tests table =
     key_test FwType table
@@ -69,6 +70,7 @@ entry_fault earlier (Some table) = table_test earlier table
 unfoldable pub entry_test : List DeviceValue → Data → Option Fault
 entry_test earlier d = entry_fault earlier (as_table d)
 
+-- the table that an entry is
 abbrev pub table_or_none : Option Members → Members
 table_or_none None = no_members
 table_or_none (Some table) = table

@@ -16,9 +16,11 @@ use Rattle.recipe_files.specs.Values.{text_of}
 abbrev pub is_lower_digit : ℕ → Bool
 is_lower_digit byte = is_between 48 57 byte || is_between 97 102 byte
 
+-- the digest of bytes that hexadecimal digits show
 abbrev pub digest_of_bytes : List ℕ → Digest
 digest_of_bytes bytes = record { bytes = bytes }
 
+-- the digest that a text shows
 abbrev pub digest_of_text : List ℕ → Option Digest
 digest_of_text text =
     if list_all is_lower_digit text then option_map digest_of_bytes (result_ok (decode_sized text 32)) else None

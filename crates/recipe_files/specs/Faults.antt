@@ -6,6 +6,7 @@ use Rattle.recipe_files.specs.declared.faults.Stop.{Stop}
 use Rattle.recipe_files.specs.declared.faults.Stop.TheVariants.{Bad, Memory}
 use Rattle.recipe_files.specs.declared.keys.Key.{Key}
 
+-- a fault where a test holds
 abbrev pub fault_if : Bool → BadKind → Key → Option Fault
 fault_if holds kind key = if holds then Some (record { kind = kind; key = key }) else None
 

@@ -29,6 +29,7 @@ pub data Values : Type 0 where
   guids : Values  -- a text that is a GUID
   lists : ℕ → Values  -- a list of at most so many entries
 
+-- what each key takes: its kind and its range
 abbrev pub values_of : Key → Values
 values_of Whole = nothing
 values_of Bank = numbers MIN_BANK MAX_BANK

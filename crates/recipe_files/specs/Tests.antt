@@ -10,6 +10,7 @@ use Rattle.recipe_files.specs.declared.keys.Key.{Key}
 use Rattle.recipe_files.specs.Keys.{key_name, Values, nothing, numbers, names, guids, lists, values_of}
 use Rattle.recipe_files.specs.Values.{entries}
 
+-- a number is within a range
 abbrev pub is_within : ℕ → ℕ → ℤ → Bool
 is_within low high (pos n) = nat_le low n && nat_le n high
 is_within low high (negsuc n) = false
@@ -19,6 +20,7 @@ abbrev pub kind_of_fault : {T : Type 0} → BadKind → (T → Bool) → Option 
 kind_of_fault otherwise passes None = Some WrongKind
 kind_of_fault otherwise passes (Some v) = if passes v then None else Some otherwise
 
+-- the fault of a value that is there
 abbrev pub value_fault : Values → Data → Option BadKind
 value_fault nothing d = None
 value_fault (numbers low high) d = kind_of_fault OutOfRange (is_within low high) (as_integer d)
@@ -26,6 +28,7 @@ value_fault names d = kind_of_fault OutOfRange is_device_name (as_str d)
 value_fault guids d = kind_of_fault BadGuid (λ text. is_ok (guid_of_text text)) (as_str d)
 value_fault (lists most) d = kind_of_fault OutOfRange (λ items. nat_le (length (entries items)) most) (as_array d)
 
+-- a fault at a key
 abbrev pub fault_at : Values → Option Data → Option BadKind
 fault_at values None = Some MissingKey
 fault_at values (Some d) = value_fault values d

@@ -8,10 +8,12 @@ use Rattle.cu_base.specs.Guids.{guid_of_text}
 use Rattle.recipe_files.specs.declared.keys.Key.{Key}
 use Rattle.recipe_files.specs.Keys.{key_name}
 
+-- the members of a table
 abbrev pub entries : Items → List Data
 entries no_items = []
 entries (item d ds) = d ∷ entries ds
 
+-- a number that is not negative
 abbrev pub natural : ℤ → ℕ
 natural (pos n) = n
 natural (negsuc n) = 0
@@ -20,15 +22,19 @@ natural (negsuc n) = 0
 abbrev pub number_of : Data → ℕ
 number_of d = natural (unwrap_or (as_integer d) (pos 0))
 
+-- a value as a text
 abbrev pub text_of : Data → List ℕ
 text_of d = unwrap_or (as_str d) []
 
+-- the GUID of zeros
 abbrev pub no_guid : Guid
 no_guid = record { bytes = replicate 16 0 }
 
+-- a value as a GUID
 abbrev pub guid_of : Data → Guid
 guid_of d = result_unwrap_or (guid_of_text (text_of d)) no_guid
 
+-- a value as a list
 abbrev pub entries_of : Data → List Data
 entries_of d = entries (unwrap_or (as_array d) no_items)
 

@@ -22,7 +22,7 @@ weight (Prunes ∷ rest) = weight rest + 1
 weight (Removes serial ∷ rest) = weight rest + 1
 weight (Clears ∷ rest) = weight rest + 1
 
-weight_most : (left : List Work) → weight left ≤ 2 * length left
+pub weight_most : (left : List Work) → weight left ≤ 2 * length left
 weight_most [] = omega arith
 weight_most (Settles kind end ∷ rest) = let h : weight rest ≤ 2 * length rest = weight_most rest in omega arith
 weight_most (Unstages pair ∷ rest) = let h : weight rest ≤ 2 * length rest = weight_most rest in omega arith

@@ -64,6 +64,7 @@ parts_tried f u Skip = None
 parts_tried f u NoTarget = None
 parts_tried f u Bad = None
 
+-- the element of a unit
 abbrev pub element_of : Formats → BootUnit → Standing → Element
 element_of f u standing = element_with u standing (parts_tried f u u.kind)
 
@@ -79,6 +80,7 @@ with_claim m e = record m { list = m.list ++ e ∷ []; batches = m.batches + 1 }
 abbrev pub closed_with : End → EfiTime → Element → Element
 closed_with end now e = if is_open e then record e { standing = Closed (Some end) now } else e
 
+-- the machine with this open element closed, where there is one
 abbrev pub settled_with : Machine → End → Option Element → Machine
 settled_with m end None = m
 settled_with m end (Some e) = record m { list = map (closed_with end m.now) m.list; kept = kept_with m.kept e.key; batches = m.batches + 1 }
@@ -92,10 +94,12 @@ pub data Course : Type 0 where
   Claim : Course
   Close : (end : Option End) → Course
 
+-- a try is claimed where no check refuses it, else closed as refused
 abbrev pub course_of_try : Option ℕ → Course
 course_of_try None = Claim
 course_of_try (Some status) = Close (Some (Refused status))
 
+-- the course of a unit by its kind
 abbrev pub course_of : Formats → Machine → BootUnit → Kind → Course
 course_of f m u Try = course_of_try (refusal f m u)
 course_of f m u Heal = Close None
@@ -107,6 +111,7 @@ course_of f m u Bad = Close None
 abbrev pub one_step : Reported → Reported
 one_step r = record r { steps = r.steps + 1 }
 
+-- the report after a step that adds lines
 abbrev pub with_lines : Reported → List UnitLine → Reported
 with_lines r lines = record r { steps = r.steps + 1; lines = r.lines ++ lines }
 
@@ -114,6 +119,7 @@ with_lines r lines = record r { steps = r.steps + 1; lines = r.lines ++ lines }
 abbrev pub next_line : Machine → Kind → Element → UnitLine
 next_line m kind e = line_of m.board kind (count_by is_closed m.list) e
 
+-- the boot after the step of a unit
 abbrev pub after_unit : Formats → Progress → BootUnit → List Work → Course → Progress
 after_unit f b u rest Claim = record {
   machine = with_claim b.machine (element_of f u Open);
@@ -163,6 +169,7 @@ after f b (Clears ∷ rest) = record {
   report = one_step b.report;
 }
 
+-- the boot after its next step
 abbrev pub next : Formats → Progress → Progress
 next f b = after f b b.left
 
@@ -175,6 +182,7 @@ after_steps f (suc n) b = next f (after_steps f n b)
 abbrev pub memory_delivery : Formats → Machine → StagedPair → Delivery
 memory_delivery f m p = record { route = 0; serial = p.serial; name = []; bytes = f.coalesced m.memory p.address }
 
+-- the delivery of a file
 abbrev pub file_delivery : File → Delivery
 file_delivery x = record { route = 1; serial = x.serial; name = x.name; bytes = Some x.bytes }
 
@@ -182,6 +190,7 @@ file_delivery x = record { route = 1; serial = x.serial; name = x.name; bytes = 
 abbrev pub staged_in_order : Machine → List StagedPair
 staged_in_order m = in_order (λ a b. nat_lt a.serial b.serial) m.staged
 
+-- the files by their upper-cased names
 abbrev pub files_in_order : Machine → List File
 files_in_order m = in_order (λ a b. is_taken_before a.name b.name) m.files
 
@@ -189,6 +198,7 @@ files_in_order m = in_order (λ a b. is_taken_before a.name b.name) m.files
 abbrev pub pair_work : Formats → Machine → StagedPair → List Work
 pair_work f m p = Unstages p ∷ map Does (units f (memory_delivery f m p) m.board)
 
+-- the work on all staged deliveries
 abbrev pub staged_work : Formats → Machine → List Work
 staged_work f m = flat_map (pair_work f m) (staged_in_order m)
 
@@ -196,6 +206,7 @@ staged_work f m = flat_map (pair_work f m) (staged_in_order m)
 abbrev pub file_work : Formats → Machine → File → List Work
 file_work f m x = map Does (drop (spent m.list x.serial) (units f (file_delivery x) m.board)) ++ Removes x.serial ∷ []
 
+-- progress is dropped where it is of a file that is gone
 abbrev pub prune_work : Machine → List Work
 prune_work m = if list_any (λ s. not (is_file m.files s)) m.kept then Prunes ∷ [] else []
 
@@ -206,6 +217,7 @@ folder_work f m =
     then prune_work m ++ flat_map (file_work f m) (files_in_order m) ++ Clears ∷ []
     else []
 
+-- the work of a boot that finds this element open, or none
 abbrev pub work_with : Formats → Machine → End → Option Element → List Work
 work_with f m h None = staged_work f m ++ folder_work f m
 work_with f m h (Some e) = Settles Heal h ∷ staged_work f (settled m h) ++ folder_work f (settled m h)

@@ -25,6 +25,7 @@ pub record BootUnit : Type 0 where
   pub head : ItemHead
   pub image : List ℕ
 
+-- the GUID of zeros
 abbrev pub no_guid : Guid
 no_guid = record { bytes = 0 ∷ 0 ∷ 0 ∷ 0 ∷ 0 ∷ 0 ∷ 0 ∷ 0 ∷ 0 ∷ 0 ∷ 0 ∷ 0 ∷ 0 ∷ 0 ∷ 0 ∷ 0 ∷ [] }
 
@@ -32,6 +33,7 @@ no_guid = record { bytes = 0 ∷ 0 ∷ 0 ∷ 0 ∷ 0 ∷ 0 ∷ 0 ∷ 0 ∷ 0 ∷
 abbrev pub fmp_guid : Guid
 fmp_guid = record { bytes = 0xED ∷ 0xD5 ∷ 0xCB ∷ 0x6D ∷ 0x2D ∷ 0xE8 ∷ 0x44 ∷ 0x4C ∷ 0xBD ∷ 0xA1 ∷ 0x71 ∷ 0x94 ∷ 0x19 ∷ 0x9A ∷ 0xD9 ∷ 0x2A ∷ [] }
 
+-- two GUIDs are equal
 abbrev pub is_same_guid : Guid → Guid → Bool
 is_same_guid a b = bytes_eq a.bytes b.bytes
 
@@ -86,6 +88,7 @@ capsule_pieces board (n, c) =
 abbrev pub bad_piece : Piece
 bad_piece = record { kind = Bad; capsule_number = 0; item_number = 0; device = 255; capsule = no_guid; head = no_head; image = [] }
 
+-- the pieces of a delivery, by what its bytes decode to
 abbrev pub pieces : BoardValue → Option (List Capsule) → List Piece
 pieces board None = bad_piece ∷ []
 pieces board (Some capsules) = flat_map (capsule_pieces board) (enumerate_from 0 capsules)

@@ -59,6 +59,7 @@ Outcome = Said × Machine
 abbrev pub plain : Told → Said
 plain answer = record { opened = None; pending = None; answer = answer }
 
+-- an answer of an event that opened the store
 abbrev pub opened : Machine → Told → Said
 opened m answer = record { opened = Some m.batches; pending = None; answer = answer }
 
@@ -87,10 +88,12 @@ is_folder_full m name =
 abbrev pub wraps : ℕ → List ℕ → Bool
 wraps address bytes = nat_lt (2 ^ 64 - 1) (address + length bytes)
 
+-- 256 segments are laid, or the bytes would pass their limit
 abbrev pub is_memory_full : Machine → List ℕ → Bool
 is_memory_full m bytes =
     nat_le MAX_SEGMENTS (length m.memory) || nat_lt MAX_MEMORY_BYTES (sum_by (λ s. length s.bytes) m.memory + length bytes)
 
+-- the machine with one more segment
 abbrev pub with_segment : Machine → ℕ → List ℕ → Machine
 with_segment m address bytes = record m { memory = m.memory ++ record { address = address; bytes = bytes } ∷ [] }
 
@@ -109,10 +112,12 @@ flags_refusal flags =
     else if has_bit flags 17 then Some Unsupported
     else None
 
+-- the refusal of a capsule header
 abbrev pub header_refusal : Result CapsuleHeader HeaderFault → Option Told
 header_refusal (Err fault) = Some Invalid
 header_refusal (Ok header) = flags_refusal header.flags
 
+-- the refusal of what a scatter list holds
 abbrev pub coalesced_refusal : Option (List ℕ) → Option Told
 coalesced_refusal None = Some Invalid
 coalesced_refusal (Some bytes) = header_refusal (capsule_header bytes)
@@ -142,6 +147,7 @@ signalled m = record m { bit = true; batches = m.batches + 1 }
 abbrev pub cold : Machine → Machine
 cold m = record m { memory = []; failed = false }
 
+-- the machine after a reset that keeps the memory
 abbrev pub warm : Machine → Machine
 warm m = record m { failed = false }
 
@@ -155,12 +161,15 @@ picture m = record {
   staged = staged_in_order m;
 }
 
+-- the entry of a boot
 abbrev pub booted : Reported → BootEnd → Said
 booted r end = record { opened = r.opened; pending = r.pending; answer = Booted r end }
 
+-- the outcome of a finished boot
 abbrev pub boot_done : Progress → Outcome
 boot_done b = (booted b.report ends.Ok, b.machine)
 
+-- the outcome of UpdateCapsule
 abbrev pub stage_done : Machine → ℕ → Option Told → Outcome
 stage_done m address (Some answer) = (opened m answer, m)
 stage_done m address None = (opened m (Serial (m.last_staged + 1)), with_staged m address)
@@ -196,6 +205,7 @@ is_folder_work Clears = true
 abbrev pub is_in_folder : Progress → Bool
 is_in_folder b = list_all is_folder_work b.left && list_all (λ e. not (is_open e) || e.key.ticket.route == 1) b.machine.list
 
+-- the next piece of work is a batch of the store
 abbrev pub is_batch : List Work → Bool
 is_batch [] = false
 is_batch (Removes serial ∷ rest) = false
@@ -205,6 +215,7 @@ is_batch (Does unit ∷ rest) = true
 is_batch (Prunes ∷ rest) = true
 is_batch (Clears ∷ rest) = true
 
+-- the next piece of work removes a file
 abbrev pub is_removal : List Work → Bool
 is_removal [] = false
 is_removal (Removes serial ∷ rest) = true
@@ -289,6 +300,7 @@ abbrev pub trace_of : Formats → Machine → List Act → List Said
 trace_of f m [] = []
 trace_of f m (act ∷ acts) = (outcome f m act).0 ∷ trace_of f (outcome f m act).1 acts
 
+-- the machine after all events on a platform on which nothing fails
 abbrev pub machine_after : Formats → Machine → List Act → Machine
 machine_after f m [] = m
 machine_after f m (act ∷ acts) = machine_after f (outcome f m act).1 acts

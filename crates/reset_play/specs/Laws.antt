@@ -49,6 +49,7 @@ IsNoFaultEnd ends.Flash = ⊥
 IsNoFaultEnd ends.Volume = ⊥
 IsNoFaultEnd ends.NoBank = ⊥
 
+-- an entry tells no fault
 abbrev pub IsNoFault : Told → Type 0
 IsNoFault Done = Unit {0}
 IsNoFault (Serial serial) = Unit {0}
@@ -63,6 +64,7 @@ IsNoFault Resources = Unit {0}
 IsNoFault (Booted report end) = IsNoFaultEnd end
 IsNoFault (Shown picture) = Unit {0}
 
+-- no entry tells a fault
 abbrev pub TellNoFault : List Said → Type 0
 TellNoFault [] = Unit {0}
 TellNoFault (said ∷ rest) = IsNoFault said.answer × TellNoFault rest
@@ -72,6 +74,7 @@ abbrev pub Distinct : {X : Type 0} → (X → X → Bool) → List X → Type 0
 Distinct same [] = Unit {0}
 Distinct same (x ∷ xs) = AllByRecursion (λ y. same x y ≡ false) xs × Distinct same xs
 
+-- two files have one name
 abbrev pub have_same_name : File → File → Bool
 have_same_name a b = is_same_name a.name b.name
 

@@ -19,5 +19,7 @@ pub mod ScriptWords
 pub mod Spent
 pub mod Texts
 pub mod Thin
+pub mod ThinValues
 pub mod Told
 pub mod Verdicts
+pub mod Whole

@@ -12,6 +12,7 @@ pub record File : Type 0 where
   pub serial : ℕ
   pub bytes : List ℕ
 
+-- what a platform is between two events
 pub record Machine : Type 0 where
   pub board : BoardValue
   pub now : EfiTime

@@ -6,6 +6,7 @@ abbrev pub inserted : {X : Type 0} → (X → X → Bool) → X → List X → L
 inserted comes_before x [] = x ∷ []
 inserted comes_before x (y ∷ ys) = if comes_before x y then x ∷ y ∷ ys else y ∷ inserted comes_before x ys
 
+-- the list with its items in order, equal ones as they stood
 abbrev pub in_order : {X : Type 0} → (X → X → Bool) → List X → List X
 in_order comes_before [] = []
 in_order comes_before (x ∷ xs) = inserted comes_before x (in_order comes_before xs)

@@ -12,6 +12,7 @@ pub record Reported : Type 0 where
   pub removed : List ℕ
   pub pending : Option ℕ
 
+-- the report as a value
 abbrev pub report_of : Report → Reported
 report_of r = record {
   opened = r.opened;

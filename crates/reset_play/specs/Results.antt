@@ -27,6 +27,7 @@ efi_status n = if n == 0 then record { code = 0 } else record { code = 2 ^ 63 + 
 abbrev pub efi_numbers : List (ℕ × ℕ)
 efi_numbers = (0, 0) ∷ (1, 21) ∷ (2, 9) ∷ (3, 25) ∷ (4, 1) ∷ (5, 26) ∷ (8, 14) ∷ []
 
+-- the number of the EFI_STATUS of a LastAttemptStatus
 abbrev pub efi_number_of : ℕ → ℕ
 efi_number_of status = unwrap_or (option_map (λ p. p.1) (find (λ p. p.0 == status) efi_numbers)) 21
 
@@ -73,6 +74,7 @@ attempt_of e = (e.version, unwrap_or (option_map attempt_status (end_of e)) 0)
 abbrev pub last_attempt : List Element → ℕ → ℕ × ℕ
 last_attempt list d = unwrap_or (option_map attempt_of (last_or None (filter (λ e. is_on d e && is_closed e) list))) (0, 0)
 
+-- the name of a device, and nothing where there is none
 abbrev pub device_name : BoardValue → ℕ → List ℕ
 device_name board d = unwrap_or (option_map (λ x. x.name) (slice_get board.devices d)) []
 

@@ -41,6 +41,7 @@ sample_images =
 abbrev pub sample_inputs : List (List ℕ × List ℕ)
 sample_inputs = (codes "x", codes "no capsule") ∷ map (λ p. (p.0, sample_capsule (length p.1) p.1)) sample_images
 
+-- the bytes of a sample input
 abbrev pub bytes_of : List ℕ → List ℕ
 bytes_of name = unwrap_or (option_map (λ p. p.1) (find (λ p. bytes_eq p.0 name) sample_inputs)) []
 
@@ -62,9 +63,11 @@ sample_device = record {
   flags = 0;
 }
 
+-- the sample board
 abbrev pub sample_board : ℕ → BoardValue
 sample_board result_max = record { bank = 65536; result_max = result_max; digests = sample_digests; devices = sample_device ∷ [] }
 
+-- the event that drops a sample file
 abbrev pub drop : List ℕ → List ℕ → Event
 drop file input = events.Drop file input
 
@@ -96,9 +99,11 @@ wrapping =
     drop (codes "c.cap") (codes "c4") ∷ drop (codes "b.cap") (codes "c4") ∷ drop (codes "a.cap") (codes "c4")
     ∷ events.Signal ∷ events.Boot ∷ events.Show ∷ []
 
+-- lines as a text
 abbrev pub text_of : List (List ℕ) → List ℕ
 text_of lines = flat_map (λ l. l ++ 10 ∷ []) lines
 
+-- what the first is to print
 abbrev pub redelivery_lines : List (List ℕ)
 redelivery_lines =
     codes "1 drop ok 1"
@@ -113,6 +118,7 @@ redelivery_lines =
     ∷ codes "done 7"
     ∷ []
 
+-- what the second is to print
 abbrev pub lower_version_lines : List (List ℕ)
 lower_version_lines =
     codes "1 drop ok 1"
@@ -124,6 +130,7 @@ lower_version_lines =
     ∷ codes "done 4"
     ∷ []
 
+-- what the third is to print
 abbrev pub refusals_lines : List (List ℕ)
 refusals_lines =
     codes "1 drop ok 1"
@@ -145,6 +152,7 @@ refusals_lines =
     ∷ codes "done 8"
     ∷ []
 
+-- what the fourth is to print
 abbrev pub wrapping_lines : List (List ℕ)
 wrapping_lines =
     codes "1 drop ok 1"

@@ -9,6 +9,7 @@ use Rattle.reset_play.specs.declared.script.faults.ScriptFault.TheVariants as sc
 use Rattle.reset_play.specs.declared.script.faults.ScriptKind.{ScriptKind}
 use Rattle.reset_play.specs.ScriptText.{Said}
 
+-- an answer gives what is said
 abbrev pub Gives : {X : Type 0} → Result X LineFault → Result X ScriptKind → Type 0
 Gives (Ok x) said = said ≡ Ok x
 Gives (Err (line.Refused kind)) said = said ≡ Err kind
@@ -19,6 +20,7 @@ abbrev pub Refuses : ScriptFault → Said → Type 0
 Refuses (script.Bad at why) said = said ≡ Err (at, why)
 Refuses script.Memory said = Unit {0}
 
+-- the answer is the script that the text says, or its first fault
 abbrev pub GivesScript : Result (Kept Event) ScriptFault → Said → Type 0
 GivesScript (Ok read) said = said ≡ Ok read.items
 GivesScript (Err fault) said = Refuses fault said

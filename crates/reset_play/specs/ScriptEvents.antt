@@ -2,7 +2,7 @@
 use Rattle.std.specs.Prelude.{ℕ, Bool, true, false, codes, if◌then◌else◌, List, [], ◌∷◌, Option, Some, None, option_and_then, option_map, ok_or, Result, Err}
 use Rattle.std.specs.Result.{result_ok}
 use Rattle.std.specs.Str.{bytes_eq}
-use Rattle.cu_base.specs.Times.{time_of_text}
+use Rattle.cu_base.specs.Times.{time_of_text, ◌>>=◌}
 use Rattle.bench_model.specs.declared.choice.Choice.{Choice}
 use Rattle.bench_model.specs.declared.choice.Choice.TheVariants.{New, Old, Mix, Fill}
 use Rattle.reset_play.specs.declared.event.Event.{Event}
@@ -11,10 +11,6 @@ use Rattle.reset_play.specs.declared.script.limits.TheConstants.{MAX_COUNT}
 use Rattle.reset_play.specs.declared.script.faults.ScriptKind.{ScriptKind}
 use Rattle.reset_play.specs.declared.script.faults.ScriptKind.TheVariants.{BadEvent, BadOperand}
 use Rattle.reset_play.specs.ScriptWords.{is_file_name, is_input_name, number_within, address, hex_number, hex_bytes}
-
-infixl 10 ◌>>=◌
-abbrev pub ◌>>=◌ : {A B : Type 0} → Option A → (A → Option B) → Option B
-o >>= f = option_and_then f o
 
 -- a word, where it passes a test
 abbrev pub where_it : (List ℕ → Bool) → List ℕ → Option (List ℕ)
@@ -26,6 +22,7 @@ only [] = None
 only (a ∷ []) = Some a
 only (a ∷ b ∷ more) = None
 
+-- the two words of words, where there are two
 abbrev pub both : List (List ℕ) → Option (List ℕ × List ℕ)
 both [] = None
 both (a ∷ []) = None
@@ -37,33 +34,40 @@ abbrev pub none : Event → List (List ℕ) → Option Event
 none event [] = Some event
 none event (a ∷ more) = None
 
+-- what the one operand says
 abbrev pub one : (List ℕ → Option Event) → List (List ℕ) → Option Event
 one event operands = option_and_then event (only operands)
 
+-- what the two operands say
 abbrev pub two : (List ℕ → List ℕ → Option Event) → List (List ℕ) → Option Event
 two event operands = option_and_then (λ p. event p.0 p.1) (both operands)
 
+-- `time MOMENT`
 abbrev pub time_event : List ℕ → Option Event
 time_event moment = option_map events.Time (result_ok (time_of_text moment))
 
+-- `drop FILE INPUT`
 abbrev pub drop_event : List ℕ → List ℕ → Option Event
 drop_event file input = do
   name ← where_it is_file_name file
   source ← where_it is_input_name input
   Some (events.Drop name source)
 
+-- `lay ADDRESS INPUT`
 abbrev pub lay_event : List ℕ → List ℕ → Option Event
 lay_event at input = do
   place ← address at
   source ← where_it is_input_name input
   Some (events.Lay place source)
 
+-- `poke ADDRESS BYTES`
 abbrev pub poke_event : List ℕ → List ℕ → Option Event
 poke_event at digits = do
   place ← address at
   bytes ← hex_bytes digits
   Some (events.Poke place bytes)
 
+-- `stage ADDRESS`
 abbrev pub stage_event : List ℕ → Option Event
 stage_event at = option_map events.Stage (address at)
 
@@ -78,6 +82,7 @@ choice (a ∷ []) =
 choice (a ∷ b ∷ []) = if bytes_eq a (codes "fill") then option_map Fill (hex_number 2 2 b) else None
 choice (a ∷ b ∷ c ∷ more) = None
 
+-- `arm NUMBER CHOICE`
 abbrev pub arm_event : List (List ℕ) → Option Event
 arm_event [] = None
 arm_event (a ∷ more) = do
@@ -85,9 +90,11 @@ arm_event (a ∷ more) = do
   left ← choice more
   Some (events.Arm after left)
 
+-- `fail NUMBER`
 abbrev pub fail_event : List ℕ → Option Event
 fail_event nth = option_map events.Fail (number_within 1 MAX_COUNT nth)
 
+-- `reset warm` or `reset cold`
 abbrev pub reset_event : List ℕ → Option Event
 reset_event how =
     if bytes_eq how (codes "warm") then Some (events.Reset false)
@@ -99,9 +106,11 @@ pub record Form : Type 0 where
   pub word : List ℕ
   pub event : List (List ℕ) → Option Event
 
+-- a form of its word
 abbrev pub form : List ℕ → (List (List ℕ) → Option Event) → Form
 form word event = record { word = word; event = event }
 
+-- the eleven forms
 abbrev pub forms : List Form
 forms =
     form (codes "time") (one time_event)

@@ -24,9 +24,11 @@ abbrev pub once : List (List ℕ) → List (List ℕ)
 once [] = []
 once (name ∷ names) = name ∷ filter (λ other. not (bytes_eq name other)) (once names)
 
+-- the inputs of a script, each once, in order of first mention
 abbrev pub inputs_of : List Event → List (List ℕ)
 inputs_of events = once (filter_map mention events)
 
+-- a name is among others
 abbrev pub has_name : List ℕ → List (List ℕ) → Bool
 has_name name names = list_any (λ other. bytes_eq other name) names
 
@@ -34,6 +36,7 @@ has_name name names = list_any (λ other. bytes_eq other name) names
 abbrev pub with_name : List (List ℕ) → List ℕ → List (List ℕ)
 with_name names name = if has_name name names then names else names ++ name ∷ []
 
+-- the names with that of one more event
 abbrev pub with_mention : List (List ℕ) → Option (List ℕ) → List (List ℕ)
 with_mention names None = names
 with_mention names (Some name) = with_name names name

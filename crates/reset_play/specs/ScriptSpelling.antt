@@ -20,12 +20,14 @@ abbrev pub pairs_text : List ℕ → List ℕ
 pairs_text [] = []
 pairs_text (b ∷ bs) = digit_glyph false (b / 16) ∷ digit_glyph false (b % 16) ∷ pairs_text bs
 
+-- the words of a choice
 abbrev pub choice_words : Choice → List (List ℕ)
 choice_words New = codes "new" ∷ []
 choice_words Old = codes "old" ∷ []
 choice_words Mix = codes "mix" ∷ []
 choice_words (Fill byte) = codes "fill" ∷ hex_text 2 byte ∷ []
 
+-- the words of an event
 abbrev pub event_words : Event → List (List ℕ)
 event_words (Time now) = codes "time" ∷ time_text now ∷ []
 event_words (Drop file input) = codes "drop" ∷ file ∷ input ∷ []
@@ -39,6 +41,7 @@ event_words (Fail nth) = codes "fail" ∷ decimal nth ∷ []
 event_words (Reset cold) = codes "reset" ∷ (if cold then codes "cold" else codes "warm") ∷ []
 event_words Show = codes "show" ∷ []
 
+-- the line of an event
 abbrev pub event_line : Event → List ℕ
 event_line event = join_with_byte 32 (event_words event)
 
@@ -46,6 +49,7 @@ event_line event = join_with_byte 32 (event_words event)
 abbrev pub script_text : List Event → List ℕ
 script_text events = flat_map (λ event. event_line event ++ 10 ∷ []) events
 
+-- a choice that has words
 abbrev pub FitsChoice : Choice → Type 0
 FitsChoice New = Unit {0}
 FitsChoice Old = Unit {0}

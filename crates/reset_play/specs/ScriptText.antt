@@ -16,10 +16,12 @@ is_skipped line = (length line == 0) || (slice_index line 0 == 35)
 abbrev pub is_plain : List ℕ → Bool
 is_plain line = list_all (is_within 0x20 0x7E) line
 
+-- the event that words say
 abbrev pub event_of_words : List (List ℕ) → Result Event ScriptKind
 event_of_words [] = Err BadEvent  -- no line has no word
 event_of_words (word ∷ operands) = event_by forms word operands
 
+-- an event that a line says
 abbrev pub as_event : Result Event ScriptKind → Result (Option Event) ScriptKind
 as_event (Ok event) = Ok (Some event)
 as_event (Err kind) = Err kind
@@ -31,6 +33,7 @@ line_said line =
     else if is_skipped line then Ok None
     else as_event (event_of_words (words line))
 
+-- the events of lines, or the first fault
 abbrev pub Said : Type 0
 Said = Result (List Event) (ℕ × ScriptKind)
 
@@ -53,5 +56,6 @@ lines_said line before [] = Ok []
 lines_said line before (text ∷ lines) =
     with_line line before (line_said text) (lines_said (line + 1) before lines) (lines_said (line + 1) (before + 1) lines)
 
+-- what a whole text says
 abbrev pub script_said : List ℕ → Said
 script_said text = lines_said 1 0 (parts 10 text)

@@ -17,9 +17,11 @@ parts_behind mark (m ∷ rest) = parts mark rest
 abbrev pub words : List ℕ → List (List ℕ)
 words line = parts 32 line
 
+-- the words behind a space
 abbrev pub words_behind : List ℕ → List (List ℕ)
 words_behind rest = parts_behind 32 rest
 
+-- a number is within two others
 abbrev pub is_within : ℕ → ℕ → ℕ → Bool
 is_within low high n = nat_le low n && nat_le n high
 
@@ -27,9 +29,11 @@ is_within low high n = nat_le low n && nat_le n high
 abbrev pub is_name_byte : ℕ → Bool
 is_name_byte b = is_within 65 90 b || is_within 97 122 b || is_within 48 57 b || (b == 46) || (b == 95) || (b == 45)
 
+-- 1 to 40 of those bytes
 abbrev pub is_file_name : List ℕ → Bool
 is_file_name word = is_within 1 MAX_FILE_NAME (length word) && list_all is_name_byte word
 
+-- 1 to 64 bytes of 0x21 to 0x7E
 abbrev pub is_input_name : List ℕ → Bool
 is_input_name word = is_within 1 MAX_INPUT_NAME (length word) && list_all (is_within 0x21 0x7E) word
 
@@ -51,6 +55,7 @@ number_within low high word =
 abbrev pub is_hex_digit : ℕ → Bool
 is_hex_digit c = is_ascii_digit c || is_within 97 102 c || is_within 65 70 c
 
+-- the value of a hexadecimal digit
 abbrev pub hex_value : ℕ → ℕ
 hex_value c = if nat_le 97 c then c - 87 else if nat_le 65 c then c - 55 else c - 48
 
@@ -64,6 +69,7 @@ abbrev pub hex_number : ℕ → ℕ → List ℕ → Option ℕ
 hex_number least most word =
     if is_within least most (length word) && list_all is_hex_digit word then Some (hex_behind 0 word) else None
 
+-- 1 to 16 hexadecimal digits
 abbrev pub address : List ℕ → Option ℕ
 address word = hex_number 1 16 word
 
@@ -73,9 +79,11 @@ hex_pairs [] = []
 hex_pairs (c ∷ []) = []
 hex_pairs (c ∷ d ∷ rest) = (16 * hex_value c + hex_value d) ∷ hex_pairs rest
 
+-- an even number of hexadecimal digits, of 1 to 4,096 bytes
 abbrev pub is_hex_bytes : List ℕ → Bool
 is_hex_bytes word =
     (length word % 2 == 0) && is_within 2 (2 * MAX_POKE_BYTES) (length word) && list_all is_hex_digit word
 
+-- the bytes of such digits
 abbrev pub hex_bytes : List ℕ → Option (List ℕ)
 hex_bytes word = if is_hex_bytes word then Some (hex_pairs word) else None

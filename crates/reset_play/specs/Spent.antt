@@ -28,16 +28,20 @@ pub record Element : Type 0 where
   pub payload : List ℕ
   pub standing : Standing
 
+-- it is open
 abbrev pub is_standing_open : Standing → Bool
 is_standing_open Open = true
 is_standing_open (Closed end at) = false
 
+-- an element is open
 abbrev pub is_open : Element → Bool
 is_open e = is_standing_open e.standing
 
+-- an element is closed
 abbrev pub is_closed : Element → Bool
 is_closed e = not (is_open e)
 
+-- the end of what is closed by one
 abbrev pub end_in : Standing → Option End
 end_in Open = None
 end_in (Closed end at) = end
@@ -46,6 +50,7 @@ end_in (Closed end at) = end
 abbrev pub end_of : Element → Option End
 end_of e = end_in e.standing
 
+-- the end is Sealed
 abbrev pub is_sealed_end : Option End → Bool
 is_sealed_end (Some Sealed) = true
 is_sealed_end (Some (Refused status)) = false
@@ -53,6 +58,7 @@ is_sealed_end (Some Kept) = false
 is_sealed_end (Some Lost) = false
 is_sealed_end None = false
 
+-- the end is Lost
 abbrev pub is_lost_end : Option End → Bool
 is_lost_end (Some Lost) = true
 is_lost_end (Some (Refused status)) = false
@@ -60,9 +66,11 @@ is_lost_end (Some Kept) = false
 is_lost_end (Some Sealed) = false
 is_lost_end None = false
 
+-- an element ended by Sealed
 abbrev pub is_sealed : Element → Bool
 is_sealed e = is_sealed_end (end_of e)
 
+-- an element ended by Lost
 abbrev pub is_lost : Element → Bool
 is_lost e = is_lost_end (end_of e)
 
@@ -75,9 +83,11 @@ is_attempted (Closed (Some Sealed) at) = true
 is_attempted (Closed (Some Kept) at) = true
 is_attempted (Closed (Some Lost) at) = true
 
+-- an element is an attempt
 abbrev pub is_attempt : Element → Bool
 is_attempt e = is_attempted e.standing
 
+-- an element is on a device
 abbrev pub is_on : ℕ → Element → Bool
 is_on d e = e.key.device == d
 
@@ -95,6 +105,7 @@ least n (m ∷ ms) = min m (least n ms)
 abbrev pub sealed_floors : List Element → ℕ → List ℕ
 sealed_floors list d = map (λ e. e.floor) (filter (λ e. is_on d e && is_sealed e) list)
 
+-- the floor that a device leaves the factory with
 abbrev pub factory_floor : BoardValue → ℕ → ℕ
 factory_floor board d = unwrap_or (option_map (λ x. x.floor) (slice_get board.devices d)) 0
 

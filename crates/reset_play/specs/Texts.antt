@@ -49,6 +49,7 @@ result_name n = codes "Capsule" ++ hex_pair (n / 256) ++ hex_pair (n % 256)
 abbrev pub status_text : EfiStatus → List ℕ
 status_text status = decimal (status.code % 2 ^ 63)
 
+-- the word of a kind
 abbrev pub kind_word : Kind → List ℕ
 kind_word Try = codes "try"
 kind_word Heal = codes "heal"
@@ -102,6 +103,7 @@ end_words l = status_text l.status ∷ attempt_text l.kind (decimal l.version) �
 abbrev pub unit_text : BoardValue → UnitLine → List ℕ
 unit_text board l = indented (kind_word l.kind) (key_words board l ++ end_words l)
 
+-- the line of an ESRT entry
 abbrev pub esrt_text : EsrtEntry → List ℕ
 esrt_text e =
     indented (codes "esrt") (guid_text e.class ∷ decimal e.fw_type ∷ decimal e.version ∷ decimal e.lowest ∷ decimal e.flags
@@ -112,17 +114,21 @@ abbrev pub or_dash : List ℕ → List ℕ
 or_dash [] = dash
 or_dash (b ∷ bs) = b ∷ bs
 
+-- the words of the FMP part of a result
 abbrev pub fmp_words : Option FmpResult → List (List ℕ)
 fmp_words None = []
 fmp_words (Some p) = decimal p.payload ∷ decimal p.index ∷ or_dash p.file ∷ or_dash p.target ∷ []
 
+-- the line of a result
 abbrev pub result_text : CapsuleResult → List ℕ
 result_text r = indented (codes "result") (result_name r.number ∷ status_text r.status ∷ guid_text r.guid ∷ fmp_words r.fmp)
 
+-- the line of the last result
 abbrev pub last_text : Option ℕ → List ℕ
 last_text None = []
 last_text (Some n) = indented (codes "last") (result_name n ∷ [])
 
+-- the line of a file
 abbrev pub file_text : FolderFile → List ℕ
 file_text x = indented (codes "file") (x.name ∷ decimal x.serial ∷ decimal x.size ∷ [])
 
@@ -150,6 +156,7 @@ lines_before board Resources = []
 lines_before board (Booted report end) = flat_map (unit_text board) report.lines
 lines_before board (Shown picture) = picture_text picture
 
+-- the word of an event
 abbrev pub event_word : Event → List ℕ
 event_word (events.Time moment) = codes "time"
 event_word (events.Drop file input) = codes "drop"
@@ -163,12 +170,14 @@ event_word (events.Fail nth) = codes "fail"
 event_word (events.Reset cold) = codes "reset"
 event_word events.Show = codes "show"
 
+-- the word of a boot's end
 abbrev pub end_word : BootEnd → List ℕ
 end_word ends.Ok = codes "ok"
 end_word ends.Flash = codes "flash"
 end_word ends.Volume = codes "volume"
 end_word ends.NoBank = codes "nobank"
 
+-- the words of an answer
 abbrev pub answer_words : Told → List (List ℕ)
 answer_words Done = codes "ok" ∷ []
 answer_words (Serial serial) = codes "ok" ∷ decimal serial ∷ []

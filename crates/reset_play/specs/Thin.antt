@@ -18,6 +18,7 @@ has_thin_body b = number_at b 28 4 == 1 && number_at b 32 2 == 0 && number_at b 
 abbrev pub has_thin_image : List ℕ → Bool
 has_thin_image b = number_at b 44 4 == 3 && number_at b 84 8 == 0 && 92 + number_at b 68 4 + number_at b 72 4 == length b
 
+-- the bytes are a thin delivery
 abbrev pub is_thin : List ℕ → Bool
 is_thin b = nat_le 92 (length b) && has_thin_header b && has_thin_body b && has_thin_image b
 
@@ -28,6 +29,7 @@ thin_item b = record {
   image = field b 92 (number_at b 68 4);
 }
 
+-- the one capsule of a thin delivery
 abbrev pub thin_capsules : List ℕ → Option (List Capsule)
 thin_capsules b =
     if is_thin b then Some (record { guid = fmp_guid; drivers = 0; items = thin_item b ∷ [] } ∷ []) else None

@@ -40,6 +40,7 @@ pub record Said : Type 0 where
   pub pending : Option ℕ
   pub answer : Told
 
+-- a snapshot as a value
 abbrev pub picture_of : Snapshot → Picture
 picture_of s = record {
   esrt = s.esrt.items;
@@ -49,6 +50,7 @@ picture_of s = record {
   staged = s.staged.items;
 }
 
+-- an answer as a value
 abbrev pub told_of : Answer → Told
 told_of answers.Done = Done
 told_of (answers.Serial serial) = Serial serial
@@ -63,5 +65,6 @@ told_of answers.Resources = Resources
 told_of (answers.Booted report end) = Booted (report_of report) end
 told_of (answers.Shown snapshot) = Shown (picture_of snapshot)
 
+-- an entry as a value
 abbrev pub said_of : Entry → Said
 said_of e = record { opened = e.opened; pending = e.pending; answer = told_of e.answer }

@@ -13,6 +13,7 @@ use Rattle.reset_play.specs.Machine.{Machine}
 abbrev pub is_admitted : BoardValue → List ℕ → Bool
 is_admitted board image = list_any (λ d. bytes_eq d.bytes (sha256 image)) board.digests
 
+-- the capacity of a device
 abbrev pub capacity_of : BoardValue → ℕ → ℕ
 capacity_of board d = unwrap_or (option_map (λ x. x.capacity) (slice_get board.devices d)) 0
 
@@ -25,10 +26,12 @@ checks m u p =
     ∷ (p.is_satisfied (versions_of m.board m.list), 8)
     ∷ []
 
+-- the status of the first check that fails
 abbrev pub first_failed : List (Bool × ℕ) → Option ℕ
 first_failed [] = None
 first_failed ((passes, status) ∷ rest) = if passes then first_failed rest else Some status
 
+-- the same, by the parts of the image
 abbrev pub refusal_with : Machine → BootUnit → Option Parts → Option ℕ
 refusal_with m u None = Some 4
 refusal_with m u (Some p) = first_failed (checks m u p)

@@ -1,18 +1,53 @@
-//! Thin deliveries.
+//! What a thin delivery says, and what its image does.
 
-ghost use Rattle.std.specs.Prelude.{◌≡◌, ◌≤◌, length};
+ghost use Rattle.std.specs.Prelude.{◌≡◌, ◌≤◌, ℕ, length, option_map};
 ghost use Rattle.std.specs.List.{list_any};
 ghost use Rattle.reset_play.specs.Deliveries.{is_target};
 ghost use Rattle.reset_play.specs.Plays.{is_thin_on};
-ghost use Rattle.reset_play.specs.Thin.{has_thin_header, has_thin_body, has_thin_image, is_thin, thin_item};
+ghost use Rattle.reset_play.specs.Thin.{has_thin_header, has_thin_body, has_thin_image, is_thin, is_refused, plain_parts};
+ghost use Rattle.reset_play.specs.ThinValues.{thin_head, item_of, thin_said, parts_of};
 
 use bench_model::{Board, Device};
+use cu_base::Guid;
 use fmp_headers::{FMP_CAPSULE_GUID, guid_at, u16_at, u32_at, u64_at};
 
-const THIN_HEADER_BYTES: usize = 92;
+/// The bytes before the image of a thin delivery: a capsule header, an FMP header with one offset and an
+/// image header of version 3.
+pub const THIN_HEADER_BYTES: usize = 92;
 
+/// The fewest bytes of a payload header: signature, size, version and lowest supported version.
+pub const PAYLOAD_HEADER_BYTES: usize = 16;
+
+/// The signature of a payload header.
+pub const PAYLOAD_SIGNATURE: [u8; 4] = *b"MSS1";
+
+/// What a thin delivery says.
+#[derive(Clone, Copy)]
+pub struct ThinItem<'a> {
+    /// UpdateImageTypeId.
+    pub type_id: Guid,
+    /// UpdateImageIndex.
+    pub index: u8,
+    /// UpdateHardwareInstance.
+    pub instance: u64,
+    /// The update image.
+    pub image: &'a [u8],
+}
+
+/// The parts of an update image of support 0.
+#[derive(Clone, Copy)]
+pub struct PlainParts<'a> {
+    /// FwVersion of the payload header.
+    pub version: u32,
+    /// LowestSupportedVersion of the payload header.
+    pub lowest: u32,
+    /// What stands behind the payload header.
+    pub payload: &'a [u8],
+}
+
+// Whether GUID, HeaderSize and CapsuleImageSize of the capsule header are those of a thin delivery.
 fn has_thin_header(bytes: &[u8]) -> bool
-    requires { 92 ≤ length bytes.now }
+    requires { THIN_HEADER_BYTES ≤ length bytes.now }
     ensures { result ≡ has_thin_header bytes.now }
 {
     guid_at(bytes, 0).bytes == FMP_CAPSULE_GUID.bytes
@@ -20,8 +55,9 @@ fn has_thin_header(bytes: &[u8]) -> bool
         && u32_at(bytes, 24) as usize == bytes.len()
 }
 
+// Whether the FMP header has version 1, no driver and one item, which stands right behind its offset.
 fn has_thin_body(bytes: &[u8]) -> bool
-    requires { 92 ≤ length bytes.now }
+    requires { THIN_HEADER_BYTES ≤ length bytes.now }
     ensures { result ≡ has_thin_body bytes.now }
 {
     u32_at(bytes, 28) == 1
@@ -30,8 +66,9 @@ fn has_thin_body(bytes: &[u8]) -> bool
         && u64_at(bytes, 36) == 16
 }
 
+// Whether the image header has version 3 and support 0, and image and vendor code end with the bytes.
 fn has_thin_image(bytes: &[u8]) -> bool
-    requires { 92 ≤ length bytes.now }
+    requires { THIN_HEADER_BYTES ≤ length bytes.now }
     ensures { result ≡ has_thin_image bytes.now }
 {
     u32_at(bytes, 44) == 3
@@ -49,25 +86,69 @@ fn is_thin(bytes: &[u8]) -> bool
         && has_thin_image(bytes)
 }
 
-fn is_target(bytes: &[u8], device: &Device) -> bool
-    requires { 92 ≤ length bytes.now }
-    ensures { result ≡ is_target (thin_item bytes.now).head device.now }
+/// What the delivery says. None exactly where it is not thin.
+pub fn read_thin(bytes: &[u8]) -> Option<ThinItem<'_>>
+    ensures { option_map item_of result ≡ thin_said bytes.now }
 {
-    guid_at(bytes, 48).bytes == device.type_id.bytes
-        && bytes[64] == device.index
-        && (u64_at(bytes, 76) == 0 || u64_at(bytes, 76) == device.instance)
+    if !is_thin(bytes) {
+        return None;
+    }
+    let size = u32_at(bytes, 68) as usize;
+    Some(ThinItem {
+        type_id: guid_at(bytes, 48),
+        index: bytes[64],
+        instance: u64_at(bytes, 76),
+        image: &bytes[THIN_HEADER_BYTES..THIN_HEADER_BYTES + size],
+    })
 }
 
-fn has_target(bytes: &[u8], devices: &[Device]) -> bool
-    requires { 92 ≤ length bytes.now }
-    ensures { result ≡ list_any (is_target (thin_item bytes.now).head) devices.now }
+// Whether the item has the device as target.
+fn is_target(item: &ThinItem<'_>, device: &Device) -> bool
+    ensures { result ≡ is_target (item_of item.now).head device.now }
 {
-    devices.iter().any(|device| is_target(bytes, device))
+    item.type_id.bytes == device.type_id.bytes
+        && item.index == device.index
+        && (item.instance == 0 || item.instance == device.instance)
 }
 
 /// Whether the bytes are a thin delivery that has a target on the board.
 pub fn is_thin_on(board: &Board, bytes: &[u8]) -> bool
     ensures { result ≡ is_thin_on board.now bytes.now }
 {
-    is_thin(bytes) && has_target(bytes, board.devices())
+    match read_thin(bytes) {
+        Some(item) => has_target(&item, board.devices()),
+        None => false,
+    }
+}
+
+// Whether the item has a target among the devices.
+fn has_target(item: &ThinItem<'_>, devices: &[Device]) -> bool
+    ensures { result ≡ list_any (is_target (item_of item.now).head) devices.now }
+{
+    devices.iter().any(|device| is_target(item, device))
+}
+
+// Whether the payload header of the image is refused.
+fn is_refused(image: &[u8]) -> bool
+    ensures { result ≡ is_refused image.now }
+{
+    image.len() < PAYLOAD_HEADER_BYTES
+        || &image[..4] != PAYLOAD_SIGNATURE.as_slice()
+        || (u32_at(image, 4) as usize) < PAYLOAD_HEADER_BYTES
+        || image.len() < u32_at(image, 4) as usize
+}
+
+/// The parts of an update image of support 0. None exactly where its payload header is refused.
+pub fn read_parts(image: &[u8]) -> Option<PlainParts<'_>>
+    ensures { (support : ℕ) → option_map parts_of result ≡ plain_parts image.now support }
+{
+    if is_refused(image) {
+        return None;
+    }
+    let size = u32_at(image, 4) as usize;
+    Some(PlainParts {
+        version: u32_at(image, 8),
+        lowest: u32_at(image, 12),
+        payload: &image[size..],
+    })
 }

@@ -1,13 +1,17 @@
 //! The events of a script, one after the other.
 
-ghost use Rattle.std.specs.Prelude.{◌≡◌, ◌≤◌, ◌+◌, ℕ, ◌++◌, IsTrue, length, take, map, OnOk, OnErr};
+ghost use Rattle.std.specs.Prelude.{◌≡◌, ◌≤◌, ◌+◌, ◌^◌, ℕ, ◌++◌, IsTrue, length, take, map, OnOk, OnErr, IfOk};
 ghost use Rattle.std.specs.List.{list_all};
-ghost use Rattle.reset_play.specs.Plays.{has_one_device, can_play, is_thin_on, thin_trace};
+ghost use Rattle.reset_play.specs.Events.{outcome, act_of, trace_of, machine_after};
+ghost use Rattle.reset_play.specs.Events.Act.{Drop, Boot};
+ghost use Rattle.reset_play.specs.Plays.{has_one_device, can_play, is_thin_on, thin_trace, loaded_bytes, acts_of};
+ghost use Rattle.reset_play.specs.Thin.{thin};
 ghost use Rattle.reset_play.specs.Told.{said_of};
 
-use crate::{MAX_EVENTS, Script, Trace};
+use super::platform::Platform;
+use crate::{Answer, BootEnd, Entry, Event, MAX_EVENTS, Script, Trace};
 use bench_model::Board;
-use cu_base::NoMemory;
+use cu_base::{NoMemory, Text};
 use cu_io::Loaded;
 use std::alloc::Global;
 
@@ -27,6 +31,85 @@ pub fn play(
     ensures err { OnErr result ((n : ℕ) × (map said_of trace.new.items ≡ map said_of trace.old.items ++ take n (thin_trace board.now loaded.now.items script.now.items))) }
     ensures long { length trace.new.items ≤ length trace.old.items + length script.now.items }
 {
-    let _ = alloc;
-    Err(NoMemory)
+    let mut platform = Platform::new(alloc, board);
+    run_events(&mut platform, alloc, script.as_slice(), loaded, trace)?;
+    Ok(())
+}
+
+/// Plays events on a platform that other events may have led to.
+pub fn run_events<'a>(
+    platform: &mut Platform<'a>,
+    alloc: Global,
+    events: &[Event],
+    loaded: &'a Loaded,
+    trace: &mut Trace,
+) -> Result<(), NoMemory>
+    requires short { length events.now ≤ MAX_EVENTS }
+    requires batches { platform.old.batches ≤ 2 ^ 58 }
+    requires events { IsTrue (list_all (can_play platform.old.board loaded.now.items) events.now) }
+    ensures ok { OnOk result (map said_of trace.new.items ≡ map said_of trace.old.items ++ trace_of thin platform.old (acts_of loaded.now.items events.now)) }
+    ensures after { OnOk result (platform.new ≡ machine_after thin platform.old (acts_of loaded.now.items events.now)) }
+    ensures err { OnErr result ((n : ℕ) × (map said_of trace.new.items ≡ map said_of trace.old.items ++ take n (trace_of thin platform.old (acts_of loaded.now.items events.now)))) }
+    ensures long { length trace.new.items ≤ length trace.old.items + length events.now }
+{
+    for event in events {
+        let entry = answer_of(platform, alloc, event, loaded)?;
+        trace.push(entry)?;
+    }
+    Ok(())
+}
+
+// What an event of files tells.
+fn answer_of<'a>(
+    platform: &mut Platform<'a>,
+    alloc: Global,
+    event: &Event,
+    loaded: &'a Loaded,
+) -> Result<Entry, NoMemory>
+    requires batches { platform.old.batches ≤ 2 ^ 59 }
+    requires played { IsTrue (can_play platform.old.board loaded.now.items event.now) }
+    ensures ok { IfOk result (λ entry. (said_of entry, platform.new) ≡ outcome thin platform.old (act_of (loaded_bytes loaded.now.items) event.now)) }
+    ensures board { platform.new.board ≡ platform.old.board }
+    ensures batches { OnOk result (platform.new.batches ≤ platform.old.batches + 100) }
+{
+    match event {
+        Event::Drop { file, input } => drop_input(platform, alloc, file, input, loaded),
+        Event::Signal => Ok(platform.signal()),
+        Event::Boot => boot_answer(platform, alloc),
+        _ => unreachable!(),
+    }
+}
+
+// Puts a named input into the folder.
+fn drop_input<'a>(
+    platform: &mut Platform<'a>,
+    alloc: Global,
+    file: &Text,
+    input: &Text,
+    loaded: &'a Loaded,
+) -> Result<Entry, NoMemory>
+    requires { IsTrue (is_thin_on platform.old.board (loaded_bytes loaded.now.items input.now)) }
+    ensures ok { IfOk result (λ entry. (said_of entry, platform.new) ≡ outcome thin platform.old (Drop file.now (loaded_bytes loaded.now.items input.now))) }
+    ensures board { platform.new.board ≡ platform.old.board }
+    ensures batches { platform.new.batches ≡ platform.old.batches }
+{
+    match loaded.get(input.as_str()) {
+        Some(bytes) => platform.drop_file(alloc, file, bytes),
+        None => unreachable!(),
+    }
+}
+
+// What a boot tells.
+fn boot_answer(platform: &mut Platform<'_>, alloc: Global) -> Result<Entry, NoMemory>
+    requires { platform.old.batches ≤ 2 ^ 59 }
+    ensures ok { IfOk result (λ entry. (said_of entry, platform.new) ≡ outcome thin platform.old Boot) }
+    ensures board { platform.new.board ≡ platform.old.board }
+    ensures batches { OnOk result (platform.new.batches ≤ platform.old.batches + 100) }
+{
+    let report = platform.boot(alloc)?;
+    Ok(Entry {
+        opened: report.opened,
+        pending: report.pending,
+        answer: Answer::Booted(report, BootEnd::Ok),
+    })
 }

@@ -1,4 +1,4 @@
-use Rattle.std.proofs.Common.{◌≡◌, List, ℕ, ◌++◌, ◌∙◌, ap, arith}
+use Rattle.std.proofs.Common.{List, ℕ, ◌++◌, ◌∙◌, ap, arith}
 use Rattle.std.specs.List.{concat, flat_map}
 use Rattle.cu_base.specs.Fields.{bytes_of}
 use Rattle.fmp_headers.specs.Bytes.{IsBytes}

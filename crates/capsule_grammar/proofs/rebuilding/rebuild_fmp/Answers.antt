@@ -1,4 +1,4 @@
-use Rattle.std.proofs.Common.{◌≡◌, ◌+◌, ◌-◌, List, ℕ, ◌++◌, ◌∙◌, [], length, take, drop, refl, ap, arith}
+use Rattle.std.proofs.Common.{◌≡◌, ◌+◌, ◌-◌, List, ℕ, ◌++◌, ◌∙◌, length, take, drop, refl, ap, arith}
 use Rattle.std.specs.List.{concat}
 use Rattle.cu_base.specs.Fields.{field}
 use Rattle.fmp_headers.specs.Bytes.{IsBytes}

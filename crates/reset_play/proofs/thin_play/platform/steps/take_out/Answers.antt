@@ -1,0 +1,7 @@
+use Rattle.std.proofs.lemmas.Fn.{filter_same}
+use Rattle.std.proofs.Common.{not, ◌==◌, rules}
+use Rattle.reset_play.specs.Machine.{File}
+use Rattle.reset_play.proofs.thin_play.platform.steps.take_out.Goals as goal
+
+pub returns : goal.returns
+returns c = filter_same _ (λ (x : File). not (x.serial == c.args.serial)) _ (λ x b f' t. search rules) _ _ c.retain.ensures.filtered

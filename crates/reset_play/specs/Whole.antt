@@ -1,0 +1,80 @@
+-- A boot of a platform on lists by whole pieces of work, and what holds of such a platform. A unit that is claimed is
+-- settled at once: a boot that nothing stops comes to the same.
+use Rattle.std.specs.Prelude.{◌≤◌, IsTrue, true, length, List, [], ◌∷◌, ◌++◌, Bool, Option, None, Some, ◌==◌, map, not, if◌then◌else◌}
+use Rattle.std.specs.List.{list_all}
+use Rattle.bench_model.specs.Boards.{BoardValue}
+use Rattle.reset_play.specs.declared.limits.TheConstants.{MAX_FILES}
+use Rattle.reset_play.specs.declared.report.Report.{Report}
+use Rattle.reset_play.specs.declared.unit.End.TheVariants.{Sealed}
+use Rattle.reset_play.specs.declared.unit.Kind.TheVariants.{Try, Heal}
+use Rattle.reset_play.specs.declared.unit.UnitKey.{UnitKey}
+use Rattle.reset_play.specs.Boots.{Work, Progress, after, next}
+use Rattle.reset_play.specs.Boots.Work.{Settles, Does, Removes}
+use Rattle.reset_play.specs.Deliveries.{BootUnit, fmp_guid}
+use Rattle.reset_play.specs.Formats.{Formats, Item}
+use Rattle.reset_play.specs.Machine.{File, Machine}
+use Rattle.reset_play.specs.Plays.{has_one_device, is_thin_on}
+use Rattle.reset_play.specs.Report.{report_of}
+use Rattle.reset_play.specs.Spent.{Element, is_open, is_closed, spent}
+use Rattle.reset_play.specs.Thin.{thin_item}
+
+-- a boot of which nothing is left
+abbrev pub at : Machine → Report → Progress
+at m r = record { machine = m; left = []; report = report_of r }
+
+-- a piece of work done whole: its step, and the next one where the step left something of it
+abbrev pub whole : Formats → Progress → Work → Progress
+whole f b w = next f (after f b (w ∷ []))
+
+-- all work done, piece by piece
+abbrev pub finish : Formats → Progress → List Work → Progress
+finish f b [] = b
+finish f b (w ∷ ws) = finish f (whole f b w) ws
+
+-- the key of the one unit of a thin file that has a target on a board of one device
+abbrev pub file_key : File → UnitKey
+file_key x = record { ticket = record { route = 1; capsule = 0; item = 0; serial = x.serial }; unit = 0; device = 0; name = x.name }
+
+-- the one unit of such a file
+abbrev pub file_unit : File → BootUnit
+file_unit x = record { kind = Try; key = file_key x; capsule = fmp_guid; head = item.head; image = item.image }
+  where
+    item : Item
+    item = thin_item x.bytes
+
+-- the work on such a file, by whether its unit is spent
+abbrev pub marked_work : File → Bool → List Work
+marked_work x is_spent = (if is_spent then [] else Does (file_unit x) ∷ []) ++ Removes x.serial ∷ []
+
+-- the work on such files, with a mark for each
+abbrev pub marked_works : List File → List Bool → List Work
+marked_works [] marks = []
+marked_works (x ∷ xs) [] = []
+marked_works (x ∷ xs) (mark ∷ marks) = marked_work x mark ++ marked_works xs marks
+
+-- whether a unit of a file is spent, for each file
+abbrev pub marks_of : List Element → List File → List Bool
+marks_of list files = map (λ x. not (spent list x.serial == 0)) files
+
+-- what is open is settled first
+abbrev pub heal_work : Option Element → List Work
+heal_work None = []
+heal_work (Some e) = Settles Heal Sealed ∷ []
+
+-- the element that is open, if any, as the rest of a list
+abbrev pub held : Option Element → List Element
+held None = []
+held (Some e) = e ∷ []
+
+-- the one element behind the closed ones, if any, is open
+abbrev pub is_held_open : Option Element → Bool
+is_held_open None = true
+is_held_open (Some e) = is_open e
+
+-- what holds of each platform: one device, few files, each thin with a target, and only the last element may be open
+pub record IsPlatform (board : BoardValue) (files : List File) (closed : List Element) (claimed : Option Element) : Type 0 where
+  pub one : IsTrue (has_one_device board)
+  pub few : length files ≤ MAX_FILES
+  pub thin : IsTrue (list_all (λ x. is_thin_on board x.bytes) files)
+  pub closed_before : IsTrue (list_all is_closed closed)
+  pub open_last : IsTrue (is_held_open claimed)

@@ -1,0 +1,150 @@
+//! The platform of a play on lists.
+
+mod boot;
+mod folder_work;
+mod steps;
+
+ghost use Rattle.std.specs.Prelude.{◌≡◌, ◌≤◌, ◌+◌, ◌++◌, ◌∷◌, [], ◌^◌, ◌<◌, ◌-◌, false, IsTrue, not, filter, IfOk, OnOk, OnErr};
+ghost use Rattle.reset_play.specs.Events.Act.{Drop, Signal};
+ghost use Rattle.reset_play.specs.Events.{outcome, plain, is_folder_full};
+ghost use Rattle.reset_play.specs.Machine.{fresh};
+ghost use Rattle.reset_play.specs.Names.{is_same_name};
+ghost use Rattle.reset_play.specs.Plays.{has_one_device, is_thin_on};
+ghost use Rattle.reset_play.specs.Thin.{thin};
+ghost use Rattle.reset_play.specs.Told.{told_of, said_of};
+
+use super::folder::{StoredFile, has_file, is_same_name};
+use super::spent::{SpentTries, SpentTry};
+use crate::{Answer, Entry, MAX_FILES, Serials};
+use bench_model::Board;
+use cu_base::{Items, NoMemory, Text};
+use std::alloc::Global;
+use std::marker::Model;
+
+/// A platform of one device, in lists. Contracts see the reference machine.
+#[derive(Drop)]
+pub struct Platform<'a> {
+    board: &'a Board,
+    files: Vec<StoredFile<'a>>,
+    last_file: u64,
+    asked: bool,
+    /// The attempts that are closed, in order.
+    done: SpentTries<'a>,
+    /// The attempt that an earlier boot left open.
+    claimed: Option<SpentTry<'a>>,
+    kept: Serials,
+    batches: u64,
+}
+
+impl<'a> Model for Platform<'a> {
+    ghost use Rattle.std.specs.Prelude.{◌++◌, [], false};
+    ghost use Rattle.reset_play.specs.Machine.{Machine, first_moment};
+    ghost use Rattle.reset_play.specs.Whole.{held, IsPlatform};
+
+    ghost Value = { Machine };
+
+    ghost view = { λ p. record { board = p.board.now; now = first_moment; files = p.files.items; last_file = p.last_file; memory = []; staged = []; last_staged = 0; bit = p.asked; list = p.done.items ++ held p.claimed; kept = p.kept.items; batches = p.batches; failed = false } };
+
+    ghost invariant = { λ p. IsPlatform p.board.now p.files.items p.done.items p.claimed };
+}
+
+impl<'a> Platform<'a> {
+    /// A platform as it leaves the factory. It takes no memory.
+    pub fn new(alloc: Global, board: &'a Board) -> Platform<'a>
+        requires { IsTrue (has_one_device board.now) }
+        ensures { result ≡ fresh board.now }
+    {
+        Platform {
+            board,
+            files: Vec::new(alloc),
+            last_file: 0,
+            asked: false,
+            done: Items::new(alloc),
+            claimed: None,
+            kept: Items::new(alloc),
+            batches: 0,
+        }
+    }
+
+    // Whether the folder takes no file of a name.
+    fn is_full(&self, name: &Text) -> bool
+        ensures value { result ≡ is_folder_full self.now name.now }
+        ensures serial { result ≡ false → self.now.last_file < 2 ^ 64 - 1 }
+    {
+        let is_known = has_file(&self.files, name.as_str());
+        let is_crowded = self.files.len() >= MAX_FILES;
+        is_crowded && !is_known || self.last_file == u64::MAX
+    }
+
+    /// Puts a thin file that has a target into the folder.
+    pub fn drop_file(
+        &mut self,
+        alloc: Global,
+        name: &Text,
+        bytes: &'a [u8],
+    ) -> Result<Entry, NoMemory>
+        requires { IsTrue (is_thin_on self.old.board bytes.now) }
+        ensures ok { IfOk result (λ entry. (said_of entry, self.new) ≡ outcome thin self.old (Drop name.now bytes.now)) }
+        ensures board { self.new.board ≡ self.old.board }
+        ensures batches { self.new.batches ≡ self.old.batches }
+    {
+        if self.is_full(name) {
+            return Ok(plain_entry(Answer::Full));
+        }
+        let file = StoredFile {
+            name: Text::from_str(alloc, name.as_str())?,
+            serial: self.last_file + 1,
+            bytes,
+        };
+        put(&mut self.files, file)?;
+        self.last_file += 1;
+        Ok(plain_entry(Answer::Serial(self.last_file)))
+    }
+
+    /// Asks for the files to be taken at the next boot.
+    pub fn signal(&mut self) -> Entry
+        requires { self.old.batches ≤ 2 ^ 63 }
+        ensures value { (said_of result, self.new) ≡ outcome thin self.old Signal }
+        ensures board { self.new.board ≡ self.old.board }
+        ensures batches { self.new.batches ≤ self.old.batches + 1 }
+    {
+        let opened = Some(self.batches);
+        self.asked = true;
+        self.batches += 1;
+        Entry {
+            opened,
+            pending: None,
+            answer: Answer::Done,
+        }
+    }
+}
+
+// What an event tells that does not open the store.
+fn plain_entry(answer: Answer) -> Entry
+    ensures { said_of result ≡ plain (told_of answer) }
+{
+    Entry {
+        opened: None,
+        pending: None,
+        answer,
+    }
+}
+
+// Puts a file into the folder in place of those of the same name.
+fn put<'a>(files: &mut Vec<StoredFile<'a>>, file: StoredFile<'a>) -> Result<(), NoMemory>
+    ensures ok { OnOk result (files.new.items ≡ filter (λ x. not (is_same_name x.name file.entry.name)) files.old.items ++ file.entry ∷ []) }
+    ensures err { OnErr result (files.new.items ≡ filter (λ x. not (is_same_name x.name file.entry.name)) files.old.items) }
+{
+    forget(files, &file.name);
+    match files.push(file) {
+        Ok(()) => Ok(()),
+        Err(_) => Err(NoMemory),
+    }
+}
+
+// Takes the files of a name out of the folder.
+fn forget(files: &mut Vec<StoredFile<'_>>, name: &Text)
+    ensures { files.new.items ≡ filter (λ x. not (is_same_name x.name name.now)) files.old.items }
+{
+    files.retain(|known| !is_same_name(known.name.as_str(), name.as_str()));
+}

@@ -1,0 +1,46 @@
+//! A whole boot.
+
+ghost use Rattle.std.specs.Prelude.{◌≡◌, ◌≤◌, ◌+◌, ◌^◌, find, None, IfOk, OnOk};
+ghost use Rattle.reset_play.specs.Boots.{boot_of};
+ghost use Rattle.reset_play.specs.Spent.{is_open};
+ghost use Rattle.reset_play.specs.Thin.{thin};
+ghost use Rattle.reset_play.specs.Whole.{at, finish, heal_work};
+ghost use Rattle.reset_play.specs.declared.unit.End.TheVariants.{Sealed};
+
+use super::Platform;
+use crate::{Kind, Report};
+use cu_base::NoMemory;
+use std::alloc::Global;
+
+impl<'a> Platform<'a> {
+    // The attempt that an earlier boot left open, if any, is settled.
+    fn heal(&mut self, alloc: Global, report: &mut Report) -> Result<(), NoMemory>
+        requires batches { self.old.batches ≤ 2 ^ 62 }
+        requires steps { report.old.steps ≤ 2 ^ 30 }
+        ensures ok { OnOk result (at self.new report.new ≡ finish thin (at self.old report.old) (heal_work (find is_open self.old.list))) }
+        ensures rests { OnOk result (find is_open self.new.list ≡ None) }
+        ensures board { self.new.board ≡ self.old.board }
+        ensures counts { OnOk result ((self.new.batches ≤ self.old.batches + 1) × (report.new.steps ≤ report.old.steps + 1)) }
+    {
+        if self.claimed.is_none() {
+            return Ok(());
+        }
+        self.settle(alloc, Kind::Heal, report)?;
+        Ok(())
+    }
+
+    /// Boots the platform. An attempt that an earlier boot left open is settled by what the device holds,
+    /// which is its image.
+    pub fn boot(&mut self, alloc: Global) -> Result<Report, NoMemory>
+        requires { self.old.batches ≤ 2 ^ 59 }
+        ensures ok { IfOk result (λ report. at self.new report ≡ boot_of thin self.old Sealed) }
+        ensures board { self.new.board ≡ self.old.board }
+        ensures batches { OnOk result (self.new.batches ≤ self.old.batches + 67) }
+    {
+        let mut report = Report::new(alloc);
+        report.opened = Some(self.batches);
+        self.heal(alloc, &mut report)?;
+        self.take_folder(alloc, &mut report)?;
+        Ok(report)
+    }
+}

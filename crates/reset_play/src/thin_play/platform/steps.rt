@@ -1,0 +1,145 @@
+//! The steps of a boot.
+
+ghost use Rattle.std.specs.Prelude.{◌≡◌, ◌≤◌, ◌+◌, ◌++◌, ◌∷◌, [], ◌^◌, IsTrue, not, ◌==◌, filter, find, None, IfOk, OnOk, OnErr, OnSome, IsSome};
+ghost use Rattle.std.specs.List.{list_any};
+ghost use Rattle.reset_play.specs.Boots.{kept_with, with_element, with_claim, with_lines, one_step, next_line};
+ghost use Rattle.reset_play.specs.Boots.Work.{Settles, Removes, Clears};
+ghost use Rattle.reset_play.specs.Report.{report_of};
+ghost use Rattle.reset_play.specs.Spent.{is_open, is_closed};
+ghost use Rattle.reset_play.specs.Thin.{thin};
+ghost use Rattle.reset_play.specs.Whole.{at, whole};
+ghost use Rattle.reset_play.specs.declared.unit.End.TheVariants.{Sealed};
+ghost use Rattle.reset_play.specs.declared.unit.Kind.TheVariants.{Try};
+
+use super::Platform;
+use crate::thin_play::folder::StoredFile;
+use crate::thin_play::line::line_of;
+use crate::thin_play::spent::{SpentTry, Standing};
+use crate::{End, Kind, Report, Serials, UnitKey};
+use cu_base::NoMemory;
+use std::alloc::Global;
+
+// Whether a serial is kept.
+fn is_kept(kept: &[u64], serial: u64) -> bool
+    ensures { result ≡ list_any (λ s. s == serial) kept.now }
+{
+    kept.iter().any(|known| *known == serial)
+}
+
+// Keeps the serial of the key's file, where it is not kept yet.
+fn keep(kept: &mut Serials, key: &UnitKey) -> Result<(), NoMemory>
+    ensures { OnOk result (kept.new.items ≡ kept_with kept.old.items key.now) }
+{
+    let serial = key.ticket.serial;
+    if key.ticket.route == 1 && !is_kept(kept.as_slice(), serial) {
+        kept.push(serial)?;
+    }
+    Ok(())
+}
+
+// Takes the files of a serial out of the folder.
+fn take_out(files: &mut Vec<StoredFile<'_>>, serial: u64)
+    ensures { files.new.items ≡ filter (λ x. not (x.serial == serial)) files.old.items }
+{
+    files.retain(|file| file.serial != serial);
+}
+
+impl<'a> Platform<'a> {
+    // An attempt that no check let begin is spent.
+    pub(super) fn close(
+        &mut self,
+        alloc: Global,
+        attempt: SpentTry<'a>,
+        report: &mut Report,
+    ) -> Result<(), NoMemory>
+        requires closed { IsTrue (is_closed attempt) }
+        requires rests { find is_open self.old.list ≡ None }
+        requires batches { self.old.batches ≤ 2 ^ 63 }
+        requires steps { report.old.steps ≤ 2 ^ 31 }
+        ensures ok { OnOk result (at self.new report.new ≡ record { machine = with_element self.old attempt.entry; left = []; report = with_lines (report_of report.old) (next_line self.old Try attempt.entry ∷ []) }) }
+        ensures rests { OnOk result (find is_open self.new.list ≡ None) }
+        ensures board { self.new.board ≡ self.old.board }
+        ensures counts { OnOk result ((self.new.batches ≡ self.old.batches + 1) × (report.new.steps ≡ report.old.steps + 1)) }
+    {
+        let line = line_of(alloc, self.board, Kind::Try, self.done.len(), &attempt)?;
+        report.lines.push(line)?;
+        keep(&mut self.kept, &attempt.key)?;
+        self.done.push(attempt)?;
+        self.batches += 1;
+        report.steps += 1;
+        Ok(())
+    }
+
+    // An attempt is begun.
+    pub(super) fn claim(&mut self, attempt: SpentTry<'a>, report: &mut Report)
+        requires open { IsTrue (is_open attempt) }
+        requires rests { find is_open self.old.list ≡ None }
+        requires batches { self.old.batches ≤ 2 ^ 63 }
+        requires steps { report.old.steps ≤ 2 ^ 31 }
+        ensures value { at self.new report.new ≡ record { machine = with_claim self.old attempt.entry; left = []; report = one_step (report_of report.old) } }
+        ensures pends { IsSome (find is_open self.new.list) }
+        ensures board { self.new.board ≡ self.old.board }
+        ensures counts { (self.new.batches ≡ self.old.batches + 1) × (report.new.steps ≡ report.old.steps + 1) }
+    {
+        self.claimed = Some(attempt);
+        self.batches += 1;
+        report.steps += 1;
+    }
+
+    // The attempt that is open is sealed.
+    pub(super) fn settle(
+        &mut self,
+        alloc: Global,
+        kind: Kind,
+        report: &mut Report,
+    ) -> Result<(), NoMemory>
+        requires pends { IsSome (find is_open self.old.list) }
+        requires batches { self.old.batches ≤ 2 ^ 63 }
+        requires steps { report.old.steps ≤ 2 ^ 31 }
+        ensures ok { OnOk result (at self.new report.new ≡ whole thin (at self.old report.old) (Settles kind Sealed)) }
+        ensures rests { OnOk result (find is_open self.new.list ≡ None) }
+        ensures board { self.new.board ≡ self.old.board }
+        ensures counts { OnOk result ((self.new.batches ≡ self.old.batches + 1) × (report.new.steps ≡ report.old.steps + 1)) }
+    {
+        let mut attempt = match self.claimed.take() {
+            Some(attempt) => attempt,
+            None => unreachable!(),
+        };
+        attempt.standing = Standing::Closed(End::Sealed);
+        let line = line_of(alloc, self.board, kind, self.done.len(), &attempt)?;
+        report.lines.push(line)?;
+        keep(&mut self.kept, &attempt.key)?;
+        self.done.push(attempt)?;
+        self.batches += 1;
+        report.steps += 1;
+        Ok(())
+    }
+
+    // A file is taken out of the folder.
+    pub(super) fn remove(&mut self, serial: u64, report: &mut Report) -> Result<(), NoMemory>
+        requires steps { report.old.steps ≤ 2 ^ 31 }
+        ensures ok { OnOk result (at self.new report.new ≡ whole thin (at self.old report.old) (Removes serial)) }
+        ensures list { self.new.list ≡ self.old.list }
+        ensures board { self.new.board ≡ self.old.board }
+        ensures counts { OnOk result ((self.new.batches ≡ self.old.batches) × (report.new.steps ≡ report.old.steps + 1)) }
+    {
+        report.removed.push(serial)?;
+        take_out(&mut self.files, serial);
+        report.steps += 1;
+        Ok(())
+    }
+
+    // The files that were asked for are taken.
+    pub(super) fn clear(&mut self, alloc: Global, report: &mut Report)
+        requires batches { self.old.batches ≤ 2 ^ 63 }
+        requires steps { report.old.steps ≤ 2 ^ 31 }
+        ensures value { at self.new report.new ≡ whole thin (at self.old report.old) Clears }
+        ensures board { self.new.board ≡ self.old.board }
+        ensures counts { (self.new.batches ≡ self.old.batches + 1) × (report.new.steps ≡ report.old.steps + 1) }
+    {
+        self.asked = false;
+        self.kept = Serials::new(alloc);
+        self.batches += 1;
+        report.steps += 1;
+    }
+}

@@ -1,0 +1,74 @@
+//! Whether an image may be tried on the first device of a board.
+
+ghost use Rattle.std.specs.Prelude.{◌≡◌, nat_le, Some};
+ghost use Rattle.reset_play.specs.Deliveries.{BootUnit};
+ghost use Rattle.reset_play.specs.Machine.{Machine};
+ghost use Rattle.reset_play.specs.Thin.{thin};
+ghost use Rattle.reset_play.specs.ThinValues.{parts_of};
+ghost use Rattle.reset_play.specs.Verdicts.{is_admitted, capacity_of, refusal, refusal_with};
+
+use super::delivery::{PlainParts, read_parts};
+use super::spent::{SpentTry, first_device, floor_in_force};
+use bench_model::Board;
+use sha2::{Digest, Sha256};
+
+/// LAST_ATTEMPT_STATUS_ERROR_INSUFFICIENT_RESOURCES (UEFI 2.10, 23.4).
+pub const INSUFFICIENT_RESOURCES: u32 = 2;
+
+/// LAST_ATTEMPT_STATUS_ERROR_INCORRECT_VERSION (UEFI 2.10, 23.4).
+pub const INCORRECT_VERSION: u32 = 3;
+
+/// LAST_ATTEMPT_STATUS_ERROR_INVALID_FORMAT (UEFI 2.10, 23.4).
+pub const INVALID_FORMAT: u32 = 4;
+
+/// LAST_ATTEMPT_STATUS_ERROR_AUTH_ERROR (UEFI 2.10, 23.4).
+pub const AUTH_ERROR: u32 = 5;
+
+// Whether the SHA-256 of the whole image is listed.
+fn is_admitted(board: &Board, image: &[u8]) -> bool
+    ensures { result ≡ is_admitted board.now image.now }
+{
+    let digest = Sha256::digest(image);
+    board.digests().iter().any(|listed| listed.bytes == digest)
+}
+
+// Whether a payload of so many bytes has room on the first device.
+fn has_room(board: &Board, size: usize) -> bool
+    ensures { result ≡ nat_le size (capacity_of board.now 0) }
+{
+    size <= first_device(board).capacity as usize
+}
+
+// The status of the first check that the parts of an image fail, in order.
+fn refusal_of_parts(
+    board: &Board,
+    list: &[SpentTry<'_>],
+    image: &[u8],
+    parts: &PlainParts<'_>,
+) -> Option<u32>
+    ensures { (m : Machine) (u : BootUnit) → m.board ≡ board.now → m.list ≡ list.now →
+        u.image ≡ image.now → u.key.device ≡ 0 → result ≡ refusal_with m u (Some (parts_of parts.now)) }
+{
+    if !is_admitted(board, image) {
+        return Some(AUTH_ERROR);
+    }
+    if !has_room(board, parts.payload.len()) {
+        return Some(INSUFFICIENT_RESOURCES);
+    }
+    if parts.version < floor_in_force(board, list) {
+        return Some(INCORRECT_VERSION);
+    }
+    None
+}
+
+/// The status of the first check that an image fails on the first device, in the order of the checks of
+/// an attempt. None where it passes all.
+pub fn refusal(board: &Board, list: &[SpentTry<'_>], image: &[u8]) -> Option<u32>
+    ensures { (m : Machine) (u : BootUnit) → m.board ≡ board.now → m.list ≡ list.now →
+        u.image ≡ image.now → u.key.device ≡ 0 → u.head.support ≡ 0 → result ≡ refusal thin m u }
+{
+    match read_parts(image) {
+        Some(parts) => refusal_of_parts(board, list, image, &parts),
+        None => Some(INVALID_FORMAT),
+    }
+}
