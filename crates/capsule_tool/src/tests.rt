@@ -1,3 +1,5 @@
+mod plays;
+
 use super::*;
 use cu_base::{Blob, Numbers};
 use cu_io::{MemInputs, MemSink};
@@ -328,13 +330,6 @@ fn answers_words_of_no_form(rt: HostRuntime) -> Result<(), Fail> {
 fn answers_what_is_built_later(rt: HostRuntime) -> Result<(), Fail> {
     expect(&rt, &["show", "a.cap"], &input(&[]), 8, "later show\n")?;
     expect(&rt, &["make", "a.toml"], &input(&[]), 8, "later make\n")?;
-    expect(
-        &rt,
-        &["play", "board", "script"],
-        &input(&[]),
-        8,
-        "later play\n",
-    )?;
     expect(&rt, &["load", "1"], &input(&[]), 8, "later load\n")?;
     expect(&rt, &["load", "1000"], &input(&[]), 8, "later load\n")?;
     Ok(())
