@@ -1,5 +1,5 @@
 -- How the reading of inputs comes from name to name.
-use Rattle.std.proofs.Common.{◌≡◌, ℕ, suc, ◌+◌, ◌<◌, ◌≤◌, List, [], ◌∷◌, ◌++◌, length, map, take, drop, get_or, Option, refl, sym, ◌∙◌, ap, arith, add-one}
+use Rattle.std.proofs.Common.{◌≡◌, ℕ, suc, ◌+◌, ◌<◌, ◌≤◌, List, [], ◌∷◌, ◌++◌, length, map, take, drop, get_or, Option, sym, ◌∙◌, ap, add-one}
 use Rattle.std.proofs.Math.Seq.{drop-cons}
 use Rattle.std.proofs.lemmas.List.{take_more, drop_all}
 use Rattle.bench_model.specs.Boards.{BoardValue}
@@ -33,7 +33,7 @@ pub come_on : (named' named : Option Named) (board : BoardValue) (names : List (
 come_on named' named board names b loaded sum i m name loaded' sum' a come is same then = record {
   comes = λ events.
       through named (inputs_work board events [] 0 names) b _ m _ a (rw (opens board events loaded sum i names name is) at (come.comes events))
-          (rw same at (then (λ loaded sum. inputs_work board events loaded sum (drop (i + 1) names))));
+      (rw same at (then (λ loaded sum. inputs_work board events loaded sum (drop (i + 1) names))));
 }
 
 pub come_found : (named' named : Option Named) (board : BoardValue) (names : List (List ℕ)) (b : Seen) (loaded : Named) (sum i : ℕ) (m : Seen)
@@ -43,7 +43,7 @@ pub come_found : (named' named : Option Named) (board : BoardValue) (names : Lis
     → (events : List Event) → MayFind named (inputs_work board events [] 0 names) b a finding
 come_found named' named board names b loaded sum i m name a finding come is same then events =
     find_through named (inputs_work board events [] 0 names) b _ m a finding (rw (opens board events loaded sum i names name is) at (come.comes events))
-        (rw same at (then (λ loaded sum. inputs_work board events loaded sum (drop (i + 1) names))))
+    (rw same at (then (λ loaded sum. inputs_work board events loaded sum (drop (i + 1) names))))
 
 pub come_stopped : (named' named : Option Named) (board : BoardValue) (names : List (List ℕ)) (b : Seen) (loaded : Named) (sum i : ℕ) (m : Seen)
     (name : List ℕ) (a : Seen)
@@ -52,7 +52,7 @@ pub come_stopped : (named' named : Option Named) (board : BoardValue) (names : L
     → (events : List Event) → MayStop named (inputs_work board events [] 0 names) b a
 come_stopped named' named board names b loaded sum i m name a come is same then events =
     stop_through named (inputs_work board events [] 0 names) b _ m a (rw (opens board events loaded sum i names name is) at (come.comes events))
-        (rw same at (then (λ loaded sum. inputs_work board events loaded sum (drop (i + 1) names))))
+    (rw same at (then (λ loaded sum. inputs_work board events loaded sum (drop (i + 1) names))))
 
 pub come_done : (named : Option Named) (board : BoardValue) (names : List (List ℕ)) (b : Seen) (loaded : Named) (sum i : ℕ) (a : Seen)
     → HasCome named board names b loaded sum i a → drop i names ≡ []

@@ -1,7 +1,7 @@
 -- The names of a script's inputs: each once, and each loaded when the play begins.
-use Rattle.std.proofs.Common.{◌≡◌, ℕ, zero, suc, ◌+◌, ◌≤◌, Bool, true, false, not, ◌&&◌, ◌||◌, cond, List, [], ◌∷◌, ◌++◌, get_or, length, map, take, drop, Option, None, Some, refl, sym, ◌∙◌, ap, arith}
+use Rattle.std.proofs.Common.{◌≡◌, ℕ, zero, suc, Bool, true, false, not, ◌&&◌, ◌||◌, cond, List, [], ◌∷◌, get_or, map, take, drop, Option, None, Some, refl, sym, ◌∙◌, ap}
 use Rattle.std.specs.Prelude.{unwrap_or}
-use Rattle.std.specs.List.{list_all, list_any, filter, filter_map, cons_option}
+use Rattle.std.specs.List.{list_all, filter, filter_map}
 use Rattle.std.specs.Str.{bytes_eq}
 use Rattle.std.proofs.Math.Seq.{drop-nil}
 use Rattle.std.proofs.lemmas.Slice.Eq.{bytes_eq-Decides}
@@ -122,7 +122,7 @@ filter_keeps : (n name : List ℕ) (xs : List (List ℕ)) → bytes_eq n name �
 filter_keeps n name [] differ has = has
 filter_keeps n name (x ∷ xs) differ has =
     kept_name n x name (bytes_eq n x) (filter (λ other. not (bytes_eq n other)) xs) refl differ
-        (or_true (bytes_eq x name) (has_name name xs) _ (filter_keeps n name xs differ) has)
+    (or_true (bytes_eq x name) (has_name name xs) _ (filter_keeps n name xs differ) has)
 
 once_at : (n name : List ℕ) (same : Bool) (names : List (List ℕ)) → bytes_eq n name ≡ same → (has_name name names ≡ true → has_name name (once names) ≡ true)
     → (same || has_name name names) ≡ true → (same || has_name name (filter (λ other. not (bytes_eq n other)) (once names))) ≡ true
@@ -149,7 +149,7 @@ named_thin board [] name thin has = absurd (cc_false has)
 named_thin board (pair ∷ loaded) name thin has =
     let (head, others) = and_true (is_thin_on board pair.1) (list_all (λ pair. is_thin_on board pair.1) loaded) thin in
     thin_at board (bytes_eq pair.0 name) pair.1 (bytes_named loaded name) true refl head
-        (λ differ. named_thin board loaded name others (rw differ at has))
+    (λ differ. named_thin board loaded name others (rw differ at has))
 
 -- a play of files can be played over inputs that are loaded and thin
 can_all : (board : BoardValue) (loaded : Named) (events : List Event)
@@ -175,7 +175,7 @@ pub plays : (board : BoardValue) (loaded : Named) (events : List Event)
     → list_all (can_play board loaded) events ≡ true
 plays board loaded events files names thin =
     can_all board loaded events
-        (λ name has. named_thin board loaded name thin (ap (has_name name) names ∙ once_has name (filter_map mention events) has)) files
+    (λ name has. named_thin board loaded name thin (ap (has_name name) names ∙ once_has name (filter_map mention events) has)) files
 
 pub distinct_inputs : (events : List Event) (names : List (List ℕ)) → names ≡ inputs_of events → AreDistinct names
 distinct_inputs events names is = rw is (once_distinct (filter_map mention events))

@@ -1,6 +1,6 @@
 -- What a play's steps do by the bytes, and what a play needs.
-use Rattle.std.proofs.Common.{◌≡◌, ℕ, ◌+◌, ◌≤◌, nat_lt, Bool, true, false, not, ◌&&◌, ◌||◌, List, [], ◌∷◌, ◌++◌, length, map, Option, None, Some, refl, sym, ◌∙◌, ap, arith}
-use Rattle.std.specs.Prelude.{Result, Ok, Err, IsTrue}
+use Rattle.std.proofs.Common.{◌≡◌, ℕ, ◌+◌, nat_lt, true, false, List, [], ◌∷◌, ◌++◌, length, map, refl, ◌∙◌, ap}
+use Rattle.std.specs.Prelude.{Ok}
 use Rattle.std.specs.List.{list_all}
 use Rattle.std.proofs.lemmas.List.Folds.{list_all-append}
 use Rattle.bench_model.specs.Boards.{BoardValue}
@@ -15,8 +15,8 @@ use Rattle.reset_play.specs.declared.trace.Entry.{Entry}
 use Rattle.capsule_tool.specs.declared.answer.Answer.{Answer}
 use Rattle.capsule_tool.specs.declared.limits.TheConstants.{MAX_NAMED_BYTES}
 use Rattle.capsule_tool.specs.declared.status.Status.TheVariants.{Done}
-use Rattle.capsule_tool.specs.Answers.{later, long}
-use Rattle.capsule_tool.specs.Findings.{Finding, bare}
+use Rattle.capsule_tool.specs.Answers.{later}
+use Rattle.capsule_tool.specs.Findings.{bare}
 use Rattle.capsule_tool.specs.Plays.{script_next, input_next, inputs_work, played, played_as}
 use Rattle.capsule_tool.specs.Works.{Work}
 use Rattle.capsule_tool.specs.Works.Work.{Finds}

@@ -1,31 +1,29 @@
 -- What follows for each status from what a run may find and write.
-use Rattle.std.proofs.Common.{◌≡◌, ◌≢◌, ℕ, ◌+◌, ◌<◌, ◌≤◌, ◌⊎◌, inl, inr, Bool, true, false, cond, List, [], ◌∷◌, ◌++◌, length, Option, None, Some, refl, sym, ◌∙◌, ap, arith, nat_lt, take, append_assoc}
-use Rattle.std.specs.Prelude.{IsSome, IsSomeAnd, sum_by, Result, Ok, Err}
+use Rattle.std.proofs.Common.{◌≡◌, ◌≢◌, ℕ, ◌+◌, ◌<◌, ◌≤◌, ◌⊎◌, inl, inr, Bool, true, false, cond, List, [], ◌∷◌, ◌++◌, length, Option, None, Some, refl, sym, ◌∙◌, ap, arith, nat_lt}
+use Rattle.std.specs.Prelude.{IsSomeAnd, sum_by, Result, Ok, Err}
 use Rattle.std.specs.List.{list_all}
-use Rattle.std.specs.Io.KnownBytes.{Appends, Keeps}
+use Rattle.std.specs.Io.KnownBytes.{Appends}
 use Rattle.std.proofs.lemmas.List.Sums.{sum_by-cons}
 use Rattle.bench_model.specs.Boards.{BoardValue}
 use Rattle.cu_base.specs.Causes.{Rose, RoseBy}
-use Rattle.cu_io.specs.Streams.{AppendsFront}
 use Rattle.cu_io.specs.Named.{Named, bytes_named, IsMissing}
 use Rattle.recipe_files.specs.Boards.{board_text}
 use Rattle.recipe_files.specs.declared.faults.BadKind.{BadKind}
 use Rattle.reset_play.specs.Plays.{has_one_device, is_of_files, is_thin_on}
 use Rattle.reset_play.specs.ScriptInputs.{inputs_of}
 use Rattle.reset_play.specs.ScriptText.{Said as ScriptSaid, script_said}
-use Rattle.reset_play.specs.Told.{Said}
 use Rattle.reset_play.specs.declared.event.Event.{Event}
 use Rattle.capsule_tool.specs.Answers.{usage, later, unread, long}
 use Rattle.capsule_tool.specs.Check.{verdict_of}
-use Rattle.capsule_tool.specs.Files.{whole_answer, verdict_answer, bytes_answer, file_work}
+use Rattle.capsule_tool.specs.Files.{verdict_answer, file_work}
 use Rattle.capsule_tool.specs.Findings.{Finding, bare}
 use Rattle.capsule_tool.specs.Forms.{form_of}
-use Rattle.capsule_tool.specs.Plays.{play_work, board_next, script_work, script_next, inputs_work, input_next}
-use Rattle.capsule_tool.specs.Readings.{Seen, MayHold, MayPassLimit, IsReading, WasRead, reading_of}
+use Rattle.capsule_tool.specs.Plays.{board_next, script_work, script_next, inputs_work}
+use Rattle.capsule_tool.specs.Readings.{Seen, reading_of}
 use Rattle.capsule_tool.specs.Runs.{Writes, EndsWith, AnswersAsTold, IsUsage, IsUnread, IsLongOne, IsLong, IsTrace, IsAsked, Judges, WritesFront}
 use Rattle.capsule_tool.specs.Statuses.{code_of}
 use Rattle.capsule_tool.specs.Told.{word, work_by, work_of, told}
-use Rattle.capsule_tool.specs.Works.{Work, by_reading, told_by, Comes, names_by, Took, ComesTo, EndsAt, MayFind, MayStop}
+use Rattle.capsule_tool.specs.Works.{Work, by_reading, told_by, Comes, ComesTo, EndsAt, MayFind}
 use Rattle.capsule_tool.specs.Works.Work.{Finds, Reads}
 use Rattle.capsule_tool.specs.declared.answer.Answer.{Answer}
 use Rattle.capsule_tool.specs.declared.check.Verdict.{Verdict}
@@ -34,7 +32,6 @@ use Rattle.capsule_tool.specs.declared.form.Form.{Form}
 use Rattle.capsule_tool.specs.declared.form.Form.TheVariants.{Check, Show, Rebuild, Make, Play, Load}
 use Rattle.capsule_tool.specs.declared.form.FileWork.{FileWork}
 use Rattle.capsule_tool.specs.declared.form.FileWork.TheVariants.{Check as CheckFile, Rebuild as RebuildFile}
-use Rattle.capsule_tool.specs.declared.input.Reading.{Reading}
 use Rattle.capsule_tool.specs.declared.input.Reading.TheVariants.{Whole, Unread, Long}
 use Rattle.capsule_tool.specs.declared.limits.TheConstants.{MAX_NAMED_BYTES}
 use Rattle.capsule_tool.specs.declared.status.Status.{Status}
@@ -129,7 +126,7 @@ inputs_end : (board : BoardValue) (events : List Event) (loaded : Named) (sum : 
 inputs_end board events loaded sum [] = record { not2 = omega arith; not4 = omega arith; not5 = omega arith; not6 = omega arith; traced = inr refl }
 inputs_end board events loaded sum (name ∷ names) = λ bytes.
     input_ends board loaded sum name (λ loaded' sum'. inputs_work board events loaded' sum' names) bytes (nat_lt MAX_NAMED_BYTES (sum + length bytes)) (is_thin_on board bytes)
-        (inputs_end board events (loaded ++ (name, bytes) ∷ []) (sum + length bytes) names)
+    (inputs_end board events (loaded ++ (name, bytes) ∷ []) (sum + length bytes) names)
 
 events_end : (board : BoardValue) (name : List ℕ) (events : List Event) (files : Bool)
     → Ends IsEnd (cond files (inputs_work board events [] 0 (inputs_of events)) (Finds (bare (later name))))
@@ -187,7 +184,7 @@ inputs_sum : (n : ℕ) (board : BoardValue) (events : List Event) (loaded : Name
 inputs_sum n board events loaded sum [] low = λ is. absurd (omega (arith, is))
 inputs_sum n board events loaded sum (name ∷ names) low = λ bytes.
     input_sums n board loaded sum name (λ loaded' sum'. inputs_work board events loaded' sum' names) bytes (nat_lt MAX_NAMED_BYTES (sum + length bytes)) (is_thin_on board bytes)
-        low refl (inputs_sum (n + length bytes) board events (loaded ++ (name, bytes) ∷ []) (sum + length bytes) names (omega (arith, low)))
+    low refl (inputs_sum (n + length bytes) board events (loaded ++ (name, bytes) ∷ []) (sum + length bytes) names (omega (arith, low)))
 
 events_sum : (n : ℕ) (board : BoardValue) (name : List ℕ) (events : List Event) (files : Bool)
     → Sums n (cond files (inputs_work board events [] 0 (inputs_of events)) (Finds (bare (later name))))
@@ -346,18 +343,25 @@ long_end named w0 (Finds it) b m a finding w w' comes ends code appends = absurd
 long_end named w0 (Reads limit name next) b m a finding w w' comes (Whole bytes, read, decides) code appends = absurd decides
 long_end named w0 (Reads limit name next) b m a finding w w' comes (Unread, read, decides) code appends =
     absurd (omega (arith, code_at finding (bare (unread name)) decides, code))
-long_end named w0 (Reads limit name next) b m a finding w w' (readings, comes, took) (Long, read, decides) code appends =
-    ( limit, name, next, readings, comes, read.gives.0
-    , rose_less (limit + 1) (sum_by length readings + (limit + 1)) b.taken a.taken (omega arith) (rose_on (sum_by length readings) (limit + 1) b.taken m.taken a.taken took.taken read.gives.1)
-    , appends_as finding (bare (long name)) w w' decides appends
-    )
+long_end named w0 (Reads limit name next) b m a finding w w' (readings, comes, took) (Long, read, decides) code appends = (
+  limit,
+  name,
+  next,
+  readings,
+  comes,
+  read.gives.0,
+  rose_less (limit + 1) (sum_by length readings + (limit + 1)) b.taken a.taken (omega arith) (rose_on (sum_by length readings) (limit + 1) b.taken m.taken a.taken took.taken read.gives.1),
+  appends_as finding (bare (long name)) w w' decides appends,
+)
 
 pub long_run : (named : Option Named) (words : List (List ℕ)) (b a : Seen) (finding : Finding) (status : ℕ) (w w' : Option (List ℕ)) (g g' : ℕ)
     → MayFind named (work_of words) b a finding → Writes finding.answer status w w' g g' → status ≡ 7 → IsLong (work_of words) named b a finding.trace w w'
 long_run named words b a finding status w w' g g' (inl (readings, comes, took)) writes is =
     let (code, appends) = written finding.answer status 7 w w' g g' writes is (omega arith) (omega arith) in
-    inr ((finding, readings, comes, code, refl, appends)
-        , rose_less (MAX_NAMED_BYTES + 1) (sum_by length readings) b.taken a.taken (omega (arith, sum_of 0 named readings (work_of words) finding comes (form_sums (form_of words) words) code)) took.taken)
+    inr (
+      (finding, readings, comes, code, refl, appends),
+      rose_less (MAX_NAMED_BYTES + 1) (sum_by length readings) b.taken a.taken (omega (arith, sum_of 0 named readings (work_of words) finding comes (form_sums (form_of words) words) code)) took.taken,
+    )
 long_run named words b a finding status w w' g g' (inr (work, m, comes, ends)) writes is =
     let (code, appends) = written finding.answer status 7 w w' g g' writes is (omega arith) (omega arith) in
     inl (long_end named (work_of words) work b m a finding w w' comes ends code appends)

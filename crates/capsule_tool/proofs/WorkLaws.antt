@@ -1,14 +1,14 @@
 -- How works come to others.
-use Rattle.std.proofs.Common.{◌≡◌, ◌≢◌, ℕ, ◌+◌, ◌-◌, ◌^◌, min, ◌<◌, ◌≤◌, ◌⊎◌, inl, inr, List, [], ◌∷◌, ◌++◌, length, Option, None, Some, refl, sym, ◌∙◌, ap, arith}
+use Rattle.std.proofs.Common.{◌≡◌, ℕ, ◌+◌, ◌≤◌, ◌⊎◌, inl, inr, List, [], ◌∷◌, ◌++◌, length, Option, refl, sym, ◌∙◌, ap, arith}
 use Rattle.std.specs.Prelude.{sum_by, Result, Ok, Err, IfOk, OnErr}
 use Rattle.std.proofs.lemmas.List.{append_assoc, append-nil}
 use Rattle.std.proofs.lemmas.List.Sums.{sum_by-append}
 use Rattle.cu_base.specs.Causes.{RoseBy}
 use Rattle.cu_io.specs.Named.{Named}
 use Rattle.capsule_tool.specs.Findings.{Finding, bare}
-use Rattle.capsule_tool.specs.Readings.{Seen, MayHold, WasRead}
+use Rattle.capsule_tool.specs.Readings.{Seen, WasRead}
 use Rattle.capsule_tool.specs.Steps.{StepsTo, IsStep, StepsBy, OnGoes}
-use Rattle.capsule_tool.specs.Works.{Work, Comes, names_by, next_names, Took, ComesTo, EndsAt, MayFind, MayStop}
+use Rattle.capsule_tool.specs.Works.{Work, Comes, names_by, Took, ComesTo, EndsAt, MayFind, MayStop}
 use Rattle.capsule_tool.specs.Works.Work.{Finds, Reads}
 use Rattle.capsule_tool.specs.declared.answer.Answer.{Answer}
 use Rattle.capsule_tool.specs.declared.input.Reading.{Reading}
@@ -48,11 +48,11 @@ took_on names names' readings more b m a first second = record {
 
 pub through : (named : Option Named) (w : Work) (b : Seen) (w' : Work) (m : Seen) (w'' : Work) (a : Seen)
     → ComesTo named w b w' m → ComesTo named w' m w'' a → ComesTo named w b w'' a
-through named w b w' m w'' a (readings, comes, took) (more, then, took') =
-    ( readings ++ more
-    , comes_on named readings more w w' w'' comes then
-    , rw (names_on named readings more w w' comes) (took_on (names_by readings w) (names_by more w') readings more b m a took took')
-    )
+through named w b w' m w'' a (readings, comes, took) (more, then, took') = (
+  readings ++ more,
+  comes_on named readings more w w' w'' comes then,
+  rw (names_on named readings more w w' comes) (took_on (names_by readings w) (names_by more w') readings more b m a took took'),
+)
 
 pub stays : (named : Option Named) (w : Work) (b : Seen) → ComesTo named w b w b
 stays named w b = ([], refl, record { asked = sym (append-nil b.asked); taken = rose_still b.taken; later = omega arith })

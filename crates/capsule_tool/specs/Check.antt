@@ -8,6 +8,7 @@ use Rattle.capsule_grammar.specs.declared.refusal.Why.TheVariants.{Short, BadHea
 use Rattle.capsule_tool.specs.declared.check.Verdict.{Verdict}
 use Rattle.capsule_tool.specs.declared.check.Verdict.TheVariants.{Whole, Refused, Trailing}
 
+-- the printed name of a cause
 abbrev pub name_of : Why → List ℕ
 name_of Short = codes "Short"
 name_of BadHeaderSize = codes "BadHeaderSize"
@@ -19,10 +20,12 @@ name_of OffsetsNotRising = codes "OffsetsNotRising"
 name_of ImageOutside = codes "ImageOutside"
 name_of TooManyCapsules = codes "TooManyCapsules"
 
+-- what is found, by the first refusal
 abbrev pub verdict_by : Option (ℕ × Why) → List ℕ → Verdict
 verdict_by (Some refused) bytes = Refused (record { at = refused.0; why = refused.1 })
 verdict_by None bytes = if nat_lt (image_size bytes) (length bytes) then Trailing (image_size bytes) else Whole (image_size bytes)
 
+-- what is found of the bytes of a file
 abbrev pub verdict_of : List ℕ → Verdict
 verdict_of bytes = verdict_by (refusal bytes) bytes
 

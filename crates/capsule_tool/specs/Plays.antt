@@ -1,6 +1,6 @@
 -- The work of a play: the board is read and parsed, then the script, then the inputs that the script names, each once in order
 -- of first mention. The first failure decides.
-use Rattle.std.specs.Prelude.{ℕ, ◌+◌, nat_lt, ◌≡◌, Bool, false, ⊤, List, [], ◌∷◌, ◌++◌, length, map, Result, Ok, Err, if◌then◌else◌}
+use Rattle.std.specs.Prelude.{ℕ, ◌+◌, nat_lt, ◌≡◌, false, ⊤, List, [], ◌∷◌, ◌++◌, length, map, Result, Ok, Err, if◌then◌else◌}
 use Rattle.std.specs.List.{list_all}
 use Rattle.bench_model.specs.Boards.{BoardValue}
 use Rattle.cu_base.specs.declared.limits.TheConstants.{MAX_CAPSULE_BYTES}
@@ -44,6 +44,7 @@ input_next board loaded sum name rest bytes =
     else if is_thin_on board bytes then rest (loaded ++ (name, bytes) ∷ []) (sum + length bytes)
     else Finds (bare (later name))
 
+-- an input is read, and that is done
 abbrev pub input_work : BoardValue → Named → ℕ → List ℕ → (Named → ℕ → Work) → Work
 input_work board loaded sum name rest = Reads MAX_CAPSULE_BYTES name (input_next board loaded sum name rest)
 
@@ -59,6 +60,7 @@ script_next board name (Err fault) = Finds (bare (faulty_script fault.0 (script_
 script_next board name (Ok events) =
     if list_all is_of_files events then inputs_work board events [] 0 (inputs_of events) else Finds (bare (later name))
 
+-- the script is read, and that is done
 abbrev pub script_work : BoardValue → List ℕ → Work
 script_work board name = Reads MAX_TEXT_BYTES name (λ bytes. script_next board name (script_said bytes))
 
@@ -67,5 +69,6 @@ abbrev pub board_next : List ℕ → List ℕ → Result BoardValue (BadKind × 
 board_next name script (Err fault) = Finds (bare (faulty_board (board_kind fault.0) fault.1))
 board_next name script (Ok board) = if has_one_device board then script_work board script else Finds (bare (later name))
 
+-- the board is read, and that is done
 abbrev pub play_work : List ℕ → List ℕ → Work
 play_work board script = Reads MAX_TEXT_BYTES board (λ bytes. board_next board script (board_text bytes))

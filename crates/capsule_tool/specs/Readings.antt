@@ -11,6 +11,7 @@ pub record Seen : Type 0 where
   pub faults : ℕ
   pub taken : ℕ
 
+-- the same of its three parts
 abbrev pub seen : List (List ℕ) → ℕ → ℕ → Seen
 seen asked faults taken = record { asked = asked; faults = faults; taken = taken }
 

@@ -1,5 +1,5 @@
 -- What a run may answer: when each status comes, and what is written with it. work is the work of the words.
-use Rattle.std.specs.Prelude.{◌≡◌, ℕ, ◌+◌, ◌≤◌, ◌⊎◌, List, [], ◌∷◌, ◌++◌, length, take, Option, None, Some, ⊤}
+use Rattle.std.specs.Prelude.{◌≡◌, ℕ, ◌+◌, ◌⊎◌, List, [], Option, None, Some, ⊤}
 use Rattle.std.specs.Io.KnownBytes.{Appends, Keeps}
 use Rattle.cu_base.specs.Causes.{Rose, RoseBy}
 use Rattle.cu_io.specs.Named.{Named, IsMissing}
@@ -30,7 +30,7 @@ AnswersAsTold None words status trace written written' = ⊤
 AnswersAsTold (Some named) words status trace written written' =
     (status ≡ 6)
     ⊎ ((status ≡ code_of (told words named).answer.status) × (trace ≡ (told words named).trace)
-        × Appends written written' (told words named).answer.text)
+    × Appends written written' (told words named).answer.text)
 
 -- by the bytes alone: inputs hold bytes by which the work finds this status, and that is written
 abbrev pub Judges : Work → Option Named → ℕ → List Said → Option (List ℕ) → Option (List ℕ) → Type 0
@@ -74,7 +74,7 @@ EndsWith finding status = (status ≡ code_of finding.answer.status) ⊎ ((statu
 abbrev pub IsTrace : Work → Option Named → Seen → Seen → ℕ → List Said → Type 0
 IsTrace work named before after status trace =
     (((finding : Finding) × MayFind named work before after finding × (trace ≡ finding.trace) × EndsWith finding status)
-        ⊎ ((status ≡ 6) × (trace ≡ [])))
+    ⊎ ((status ≡ 6) × (trace ≡ [])))
     × ((trace ≡ []) ⊎ ((status ≡ 0) ⊎ ((status ≡ 5) ⊎ (status ≡ 6))))
 
 -- the names that the words and the script give were asked for, in order, up to the input that decided; or up to where

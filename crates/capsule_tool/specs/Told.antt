@@ -26,6 +26,7 @@ work_by (Some Make) words = Finds (bare (later (word words 0)))
 work_by (Some Play) words = play_work (word words 1) (word words 2)
 work_by (Some Load) words = Finds (bare (later (word words 0)))
 
+-- the work of the words
 abbrev pub work_of : List (List ℕ) → Work
 work_of words = work_by (form_of words) words
 

@@ -1,6 +1,6 @@
 -- The work of a run: the inputs that it reads, one after the other, and what it finds then. What the program finds, what it
 -- may find whatever happens outside, and the names that it asks for are all read off it.
-use Rattle.std.specs.Prelude.{◌≡◌, ℕ, ◌+◌, ◌≤◌, ◌⊎◌, List, [], ◌∷◌, ◌++◌, length, sum_by, Option}
+use Rattle.std.specs.Prelude.{◌≡◌, ℕ, ◌≤◌, ◌⊎◌, List, [], ◌∷◌, ◌++◌, length, sum_by, Option}
 use Rattle.cu_base.specs.Causes.{RoseBy}
 use Rattle.cu_io.specs.Named.{Named, bytes_named}
 use Rattle.capsule_tool.specs.Answers.{unread, long}

@@ -14,6 +14,7 @@ mod script;
 use crate::answer::Answer;
 use crate::found::Found;
 use crate::status::Status;
+use crate::step::Step;
 use bench_model::Board;
 use board::take_board;
 use cu_base::{Blob, NoMemory, Text};
@@ -22,7 +23,6 @@ use inputs::take_inputs;
 use reset_play::{MAX_EVENTS, Script, Trace, script_inputs, trace_text};
 use script::take_script;
 use std::alloc::Global;
-use crate::step::Step;
 
 /// Reads the board and the script of these names and the inputs that the script names, and plays.
 pub fn on_play<I: Inputs>(
@@ -90,12 +90,7 @@ fn on_inputs<I: Inputs>(
 
 /// Plays over the inputs that were read.
 
-fn played(
-    alloc: Global,
-    board: &Board,
-    script: &Script,
-    loaded: &Loaded,
-) -> Result<Found, NoMemory>
+fn played(alloc: Global, board: &Board, script: &Script, loaded: &Loaded) -> Result<Found, NoMemory>
     requires one { IsTrue (has_one_device board.now) }
     requires short { length script.now.items ≤ MAX_EVENTS }
     requires events { IsTrue (list_all (can_play board.now loaded.now.items) script.now.items) }

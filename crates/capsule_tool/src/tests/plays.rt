@@ -37,9 +37,7 @@ const SECOND_DEVICE: [&str; 10] = [
 const SIZES_28_110: [u8; 12] = [0x1c, 0, 0, 0, 0, 0, 5, 0, 110, 0, 0, 0];
 
 /// aaaaaaaa-0000-0000-0000-000000000001
-const SYS: [u8; 16] = [
-    0xaa, 0xaa, 0xaa, 0xaa, 0, 0, 0, 0, 0, 0, 0, 0, 0, 0, 0, 1,
-];
+const SYS: [u8; 16] = [0xaa, 0xaa, 0xaa, 0xaa, 0, 0, 0, 0, 0, 0, 0, 0, 0, 0, 0, 1];
 
 /// Version 3 of the image header.
 const THIRD: [u8; 4] = [3, 0, 0, 0];
@@ -90,7 +88,10 @@ fn given(alloc: Global, board: Blob, script: &[&str]) -> Result<NoFaultInputs, N
     inputs.add(Text::from_str(alloc, "c1")?, delivery(alloc, VERSION_1)?)?;
     inputs.add(Text::from_str(alloc, "c2")?, delivery(alloc, VERSION_2)?)?;
     inputs.add(Text::from_str(alloc, "c4")?, delivery(alloc, VERSION_4)?)?;
-    inputs.add(Text::from_str(alloc, "thick")?, joined(alloc, &[&GUID, &REST])?)?;
+    inputs.add(
+        Text::from_str(alloc, "thick")?,
+        joined(alloc, &[&GUID, &REST])?,
+    )?;
     Ok(inputs)
 }
 
@@ -139,7 +140,8 @@ fn a_redelivery_is_tried_again(rt: HostRuntime) -> Result<(), Fail> {
         "signal",
         "boot",
     ];
-    let text = "1 drop ok 1\n2 drop ok 2\n3 signal ok\n  try file:A.CAP 0 0 sys 0 4 Capsule0000\n4 boot ok\n5 drop ok 3\n6 signal ok\n  try file:a.cap 0 0 sys 0 4 Capsule0001\n7 boot ok\ndone 7\n";
+    let text =
+        "1 drop ok 1\n2 drop ok 2\n3 signal ok\n  try file:A.CAP 0 0 sys 0 4 Capsule0000\n4 boot ok\n5 drop ok 3\n6 signal ok\n  try file:a.cap 0 0 sys 0 4 Capsule0001\n7 boot ok\ndone 7\n";
     expect_play(&rt, &ONE_DEVICE, &script, 0, text)?;
     Ok(())
 }
@@ -147,7 +149,8 @@ fn a_redelivery_is_tried_again(rt: HostRuntime) -> Result<(), Fail> {
 #[test]
 fn a_lower_version_is_refused(rt: HostRuntime) -> Result<(), Fail> {
     let script = ["drop a.cap c2", "drop b.cap c1", "signal", "boot"];
-    let text = "1 drop ok 1\n2 drop ok 2\n3 signal ok\n  try file:a.cap 0 0 sys 0 2 Capsule0000\n  try file:b.cap 0 0 sys 25 1 Capsule0001\n4 boot ok\ndone 4\n";
+    let text =
+        "1 drop ok 1\n2 drop ok 2\n3 signal ok\n  try file:a.cap 0 0 sys 0 2 Capsule0000\n  try file:b.cap 0 0 sys 25 1 Capsule0001\n4 boot ok\ndone 4\n";
     expect_play(&rt, &ONE_DEVICE, &script, 0, text)?;
     Ok(())
 }
@@ -178,8 +181,20 @@ fn a_board_is_parsed_before_the_script_is_opened(rt: HostRuntime) -> Result<(), 
 #[test]
 fn faulty_scripts_are_told(rt: HostRuntime) -> Result<(), Fail> {
     expect_play(&rt, &ONE_DEVICE, &["bot"], 3, "script 1 BadEvent\n")?;
-    expect_play(&rt, &ONE_DEVICE, &["boot", "boot 1"], 3, "script 2 BadOperand\n")?;
-    expect_play(&rt, &ONE_DEVICE, &["boot", "", "\t"], 3, "script 3 BadText\n")?;
+    expect_play(
+        &rt,
+        &ONE_DEVICE,
+        &["boot", "boot 1"],
+        3,
+        "script 2 BadOperand\n",
+    )?;
+    expect_play(
+        &rt,
+        &ONE_DEVICE,
+        &["boot", "", "\t"],
+        3,
+        "script 3 BadText\n",
+    )?;
     Ok(())
 }
 

@@ -9,13 +9,13 @@ pub returns-in-Ok-Goes-clause-found : goal.returns-in-Ok-Goes-clause-found
 returns-in-Ok-Goes-clause-found g c =
     let next : BoardValue → Work = λ board. script_work board c.args.script.now in
     found_after _ _ _ _ _ _ _ c.on_script.result c.take_board.ensures.named
-        (goes_to _ _ _ _ next _ _ c.in-Ok-Goes.field-0-is (c.in-Ok-Goes.ensures.found c.args.script.now)) c.on_script.ensures.found
+    (goes_to _ _ _ _ next _ _ c.in-Ok-Goes.field-0-is (c.in-Ok-Goes.ensures.found c.args.script.now)) c.on_script.ensures.found
 
 pub returns-in-Ok-Goes-clause-memory : goal.returns-in-Ok-Goes-clause-memory
 returns-in-Ok-Goes-clause-memory g c =
     let next : BoardValue → Work = λ board. script_work board c.args.script.now in
     stopped_after _ _ _ _ _ _ (seen (g.I.Inputs.asked c.on_script.new.inputs) (g.I.Inputs.faults c.on_script.new.inputs) (g.I.Inputs.taken c.on_script.new.inputs)) c.on_script.result c.take_board.ensures.named
-        (goes_to _ _ _ _ next _ _ c.in-Ok-Goes.field-0-is (c.in-Ok-Goes.ensures.found c.args.script.now)) c.on_script.ensures.memory
+    (goes_to _ _ _ _ next _ _ c.in-Ok-Goes.field-0-is (c.in-Ok-Goes.ensures.found c.args.script.now)) c.on_script.ensures.memory
 
 pub returns-in-Ok-Ends-clause-found : goal.returns-in-Ok-Ends-clause-found
 returns-in-Ok-Ends-clause-found g c =

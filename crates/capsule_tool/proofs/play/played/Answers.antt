@@ -1,4 +1,4 @@
-use Rattle.std.proofs.Common.{◌∙◌, ap}
+use Rattle.std.proofs.Common.{◌∙◌}
 use Rattle.capsule_tool.proofs.PlayLaws.{played_is}
 use Rattle.capsule_tool.proofs.play.played.Goals as goal
 

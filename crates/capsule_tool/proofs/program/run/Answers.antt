@@ -1,5 +1,4 @@
 use Rattle.std.proofs.Common.{arith}
-use Rattle.capsule_tool.specs.Readings.{seen}
 use Rattle.capsule_tool.proofs.RunLaws.{as_told, judged_run, usage_run, unread_run, unwritten_run, long_run, small_run, prefix_run, trace_run, asked_run}
 use Rattle.capsule_tool.proofs.program.run.Goals as goal
 

@@ -1,7 +1,5 @@
-use Rattle.std.proofs.Common.{arith, ◌≤◌, length}
 use Rattle.recipe_files.specs.Boards.{board_text}
-use Rattle.capsule_tool.specs.Plays.{board_next, script_work}
-use Rattle.capsule_tool.specs.declared.limits.TheConstants.{MAX_TEXT_BYTES}
+use Rattle.capsule_tool.specs.Plays.{board_next}
 use Rattle.capsule_tool.proofs.WorkLaws.{step_on, stop_here, goes_to, ends_with, lift, on_err}
 use Rattle.capsule_tool.proofs.play.board.take_board.Goals as goal
 

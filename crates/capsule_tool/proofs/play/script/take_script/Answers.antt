@@ -1,7 +1,6 @@
 use Rattle.std.proofs.Common.{arith, ◌≤◌, length}
-use Rattle.reset_play.specs.ScriptInputs.{inputs_of}
 use Rattle.reset_play.specs.ScriptText.{script_said}
-use Rattle.capsule_tool.specs.Plays.{script_next, inputs_work}
+use Rattle.capsule_tool.specs.Plays.{script_next}
 use Rattle.capsule_tool.specs.declared.limits.TheConstants.{MAX_TEXT_BYTES}
 use Rattle.capsule_tool.proofs.WorkLaws.{step_on, stop_here, goes_to, goes_short, ends_with, lift, on_err}
 use Rattle.capsule_tool.proofs.play.script.take_script.Goals as goal
