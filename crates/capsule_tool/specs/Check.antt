@@ -1,6 +1,6 @@
 -- What `check` finds of the bytes of a file: the first refusal of the capsule grammar, else bytes that follow the
 -- capsule, else one whole capsule.
-use Rattle.std.specs.Prelude.{◌≡◌, ℕ, nat_lt, List, length, codes, Option, None, Some, if◌then◌else◌, ⊤}
+use Rattle.std.specs.Prelude.{◌≡◌, ◌≤◌, ℕ, nat_lt, List, length, codes, Option, None, Some, if◌then◌else◌, ⊤}
 use Rattle.fmp_headers.specs.CapsuleHeader.{image_size}
 use Rattle.capsule_grammar.specs.Refusals.{refusal}
 use Rattle.capsule_grammar.specs.declared.refusal.Why.{Why}
@@ -29,8 +29,8 @@ verdict_by None bytes = if nat_lt (image_size bytes) (length bytes) then Trailin
 abbrev pub verdict_of : List ℕ → Verdict
 verdict_of bytes = verdict_by (refusal bytes) bytes
 
--- a whole capsule is not refused
-abbrev pub MayBeWhole : Verdict → Option (ℕ × Why) → Type 0
-MayBeWhole (Whole length) refused = refused ≡ None
-MayBeWhole (Refused at) refused = ⊤
-MayBeWhole (Trailing at) refused = ⊤
+-- a whole capsule is not refused, and no byte follows it
+abbrev pub MayBeWhole : Verdict → List ℕ → Type 0
+MayBeWhole (Whole n) bytes = (refusal bytes ≡ None) × (length bytes ≤ image_size bytes)
+MayBeWhole (Refused at) bytes = ⊤
+MayBeWhole (Trailing at) bytes = ⊤

@@ -1,6 +1,5 @@
 ghost use Rattle.std.specs.Prelude.{◌≡◌};
 ghost use Rattle.capsule_tool.specs.Check.{verdict_of, name_of, MayBeWhole};
-ghost use Rattle.capsule_grammar.specs.Refusals.{refusal};
 
 use capsule_grammar::{Refusal, Why};
 
@@ -18,7 +17,7 @@ pub enum Verdict {
 /// Whether the bytes are one capsule and no more.
 pub fn judge(bytes: &[u8]) -> Verdict
     ensures value { result ≡ verdict_of bytes.now }
-    ensures whole { MayBeWhole result (refusal bytes.now) }
+    ensures whole { MayBeWhole result bytes.now }
 {
     match capsule_grammar::check(bytes) {
         Ok(length) => {

@@ -1,6 +1,7 @@
 //! The work on the one file that the words name.
-ghost use Rattle.std.specs.Prelude.{◌≡◌, ◌≤◌, None, IfOk, OnErr};
+ghost use Rattle.std.specs.Prelude.{◌≡◌, ◌≤◌, length, None, IfOk, OnErr};
 ghost use Rattle.capsule_grammar.specs.Refusals.{refusal};
+ghost use Rattle.fmp_headers.specs.CapsuleHeader.{image_size};
 ghost use Rattle.capsule_tool.specs.Files.{file_work, bytes_answer, whole_answer, rebuilt};
 ghost use Rattle.capsule_tool.specs.Readings.{seen};
 ghost use Rattle.capsule_tool.specs.Works.{MayFind, MayStop};
@@ -11,8 +12,8 @@ use crate::form::FileWork;
 use crate::found::Found;
 use crate::status::Status;
 use crate::step::{Step, take_bytes};
-use capsule_grammar::DecodeFault;
-use cu_base::{MAX_CAPSULE_BYTES, NoMemory, Text};
+use capsule_grammar::{DecodeFault, is_rebuilt};
+use cu_base::{Blob, MAX_CAPSULE_BYTES, NoMemory, Text};
 use cu_io::Inputs;
 use std::alloc::Global;
 
@@ -30,7 +31,7 @@ pub fn on_file<I: Inputs>(
 {
     match take_bytes(alloc, name, MAX_CAPSULE_BYTES, inputs) {
         Ok(Step::Goes(bytes)) => {
-            let answer = on_bytes(alloc, work, bytes.as_slice())?;
+            let answer = on_bytes(alloc, work, bytes)?;
             Ok(Found::bare(alloc, answer))
         }
         Ok(Step::Ends(answer)) => Ok(Found::bare(alloc, answer)),
@@ -39,10 +40,10 @@ pub fn on_file<I: Inputs>(
 }
 
 /// What is found of the bytes of the file.
-fn on_bytes(alloc: Global, work: FileWork, bytes: &[u8]) -> Result<Answer, NoMemory>
-    ensures { IfOk result (λ answer. answer ≡ bytes_answer work bytes.now) }
+fn on_bytes(alloc: Global, work: FileWork, bytes: Blob) -> Result<Answer, NoMemory>
+    ensures { IfOk result (λ answer. answer ≡ bytes_answer work bytes) }
 {
-    match judge(bytes) {
+    match judge(bytes.as_slice()) {
         Verdict::Whole(length) => on_whole(alloc, work, bytes, length),
         Verdict::Refused(refusal) => {
             Answer::refused(alloc, refusal.at as usize, printed(refusal.why))
@@ -52,26 +53,33 @@ fn on_bytes(alloc: Global, work: FileWork, bytes: &[u8]) -> Result<Answer, NoMem
 }
 
 /// The work on a file that is one whole capsule.
-fn on_whole(alloc: Global, work: FileWork, bytes: &[u8], length: usize) -> Result<Answer, NoMemory>
-    requires { refusal bytes.now ≡ None }
-    ensures { IfOk result (λ answer. answer ≡ whole_answer work bytes.now length) }
+fn on_whole(alloc: Global, work: FileWork, bytes: Blob, size: usize) -> Result<Answer, NoMemory>
+    requires accepted { refusal bytes ≡ None }
+    requires whole { length bytes ≤ image_size bytes }
+    ensures { IfOk result (λ answer. answer ≡ whole_answer work bytes size) }
 {
     match work {
-        FileWork::Check => Answer::done(alloc, length),
+        FileWork::Check => Answer::done(alloc, size),
         FileWork::Rebuild => rebuilt(alloc, bytes),
     }
 }
 
-/// The capsule at the front of the bytes without its lead and its pads.
-fn rebuilt(alloc: Global, bytes: &[u8]) -> Result<Answer, NoMemory>
-    requires { refusal bytes.now ≡ None }
-    ensures { IfOk result (λ answer. answer ≡ rebuilt bytes.now) }
+/// The capsule that is these bytes without its lead and its pads. Where it has none, its bytes are not
+/// copied.
+fn rebuilt(alloc: Global, bytes: Blob) -> Result<Answer, NoMemory>
+    requires accepted { refusal bytes ≡ None }
+    requires whole { length bytes ≤ image_size bytes }
+    ensures { IfOk result (λ answer. answer ≡ rebuilt bytes) }
 {
-    match capsule_grammar::rebuild(alloc, bytes) {
-        Ok(text) => Ok(Answer {
-            status: Status::Done,
-            text,
-        }),
+    let status = Status::Done;
+    if is_rebuilt(bytes.as_slice()) {
+        return Ok(Answer {
+            status,
+            text: bytes,
+        });
+    }
+    match capsule_grammar::rebuild(alloc, bytes.as_slice()) {
+        Ok(text) => Ok(Answer { status, text }),
         Err(DecodeFault::Memory) => Err(NoMemory),
         Err(DecodeFault::Refused(_)) => unreachable!(),
     }

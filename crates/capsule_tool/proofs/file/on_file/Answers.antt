@@ -13,7 +13,7 @@ returns-in_err-answer-in-Ok-Goes-clause-memory g c =
 pub returns-in_ok-answer-in-Ok-Goes-clause-found : goal.returns-in_ok-answer-in-Ok-Goes-clause-found
 returns-in_ok-answer-in-Ok-Goes-clause-found g c =
     let next = λ (bytes : List ℕ). Finds (bare (bytes_answer c.args.work bytes)) in
-    finds_as _ _ _ _ _ _ (c.bare.ensures ∙ ap bare (c.in_ok-answer-in-Ok-Goes.ensures ∙ ap (bytes_answer c.args.work) c.as_slice.ensures))
+    finds_as _ _ _ _ _ _ (c.bare.ensures ∙ ap bare c.in_ok-answer-in-Ok-Goes.ensures)
     (inl (goes_to _ _ _ _ next _ _ c.in-Ok-Goes.field-0-is (c.in-Ok-Goes.ensures.found next)))
 
 pub returns-in-Ok-Ends-clause-found : goal.returns-in-Ok-Ends-clause-found
