@@ -33,10 +33,13 @@ def capsule(items, image_bytes):
     return FMP + struct.pack("<III", 28, 0x50000, 28 + len(body)) + body
 
 
-def measure(command, out):
-    """The least milliseconds and the greatest resident set, in bytes, of a command."""
+def measure(command, copy, out=os.devnull):
+    """The least milliseconds and the greatest resident set, in bytes, of a command. The copy that the last run
+    made is removed before each run."""
     best, most = float("inf"), 0
     for _ in range(RUNS):
+        if os.path.isfile(copy):
+            os.remove(copy)
         with open(out, "wb") as sink:
             start = time.perf_counter()
             child = subprocess.Popen(command, stdout=sink, stderr=subprocess.DEVNULL)
@@ -51,13 +54,13 @@ def measure(command, out):
 def compare(program, path, copy):
     """Prints what the program takes on a file, and what plain tools take."""
     size = os.path.getsize(path)
-    cat, _ = measure(["cat", path], os.devnull)
-    whole, _ = measure(["dd", f"if={path}", "of=/dev/null", "bs=64M"], os.devnull)
-    cp, _ = measure(["cp", path, copy], os.devnull)
+    cat, _ = measure(["cat", path], copy)
+    whole, _ = measure(["dd", f"if={path}", "of=/dev/null", "bs=64M"], copy)
+    cp, _ = measure(["cp", path, copy], copy)
     print(f"  cat {cat:.0f} ms, dd bs=64M {whole:.0f} ms, cp {cp:.0f} ms")
-    check, memory = measure([program, "check", path], os.devnull)
+    check, memory = measure([program, "check", path], copy)
     print(f"  check {check:.0f} ms: {check / cat:.1f} times cat, {check / whole:.1f} times dd bs=64M; memory {memory / size:.2f} times the file")
-    rebuild, memory = measure([program, "rebuild", path], copy)
+    rebuild, memory = measure([program, "rebuild", path], copy, copy)
     print(f"  rebuild {rebuild:.0f} ms: {rebuild / cp:.1f} times cp, {rebuild / whole:.1f} times dd bs=64M; memory {memory / size:.2f} times the file")
 
 
