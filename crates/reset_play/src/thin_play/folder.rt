@@ -79,15 +79,6 @@ pub fn is_taken_before(a: &str, b: &str) -> bool
     }
 }
 
-/// The place of the first file of this name.
-pub fn position_of(files: &[StoredFile<'_>], name: &str) -> Option<usize>
-    ensures { result ≡ position (λ x. is_same_name x.name name.now) files.now }
-{
-    files
-        .iter()
-        .position(|file| is_same_name(file.name(), name))
-}
-
 /// Whether a file has this name.
 pub fn has_file(files: &[StoredFile<'_>], name: &str) -> bool
     ensures { result ≡ list_any (λ x. is_same_name x.name name.now) files.now }

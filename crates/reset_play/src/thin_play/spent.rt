@@ -1,6 +1,6 @@
 //! The attempts of a play on lists, in order, and what is read off them.
 
-ghost use Rattle.std.specs.Prelude.{◌≡◌, ◌==◌, ◌&&◌, not, max, if◌then◌else◌, count_by, slice_get, Some};
+ghost use Rattle.std.specs.Prelude.{◌≡◌, ◌==◌, ◌&&◌, not, max, if◌then◌else◌, slice_get, Some};
 ghost use Rattle.std.specs.List.{list_any};
 ghost use Rattle.reset_play.specs.Spent.{is_of, is_on, is_open, is_closed, is_sealed, floor_of, spent};
 
@@ -111,13 +111,6 @@ pub fn floor_in_force(board: &Board, list: &[SpentTry<'_>]) -> u32
     floor
 }
 
-/// How many attempts are closed.
-pub fn closed_count(list: &[SpentTry<'_>]) -> usize
-    ensures { result ≡ count_by is_closed list.now }
-{
-    list.iter().filter(|attempt| is_closed(attempt)).count()
-}
-
 // Whether it is a closed attempt of the file of a serial.
 fn is_spent_of(attempt: &SpentTry<'_>, serial: u64) -> bool
     ensures { result ≡ (is_of 1 serial (attempt.now).key && is_closed attempt.now) }
@@ -137,11 +130,4 @@ pub fn is_file_spent(list: &[SpentTry<'_>], serial: u64) -> bool
     ensures { result ≡ not (spent list.now serial == 0) }
 {
     has_spent_of(list, serial)
-}
-
-/// Whether an attempt is open.
-pub fn has_open(list: &[SpentTry<'_>]) -> bool
-    ensures { result ≡ list_any is_open list.now }
-{
-    list.iter().any(|attempt| is_open(attempt))
 }

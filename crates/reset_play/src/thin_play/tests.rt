@@ -4,7 +4,7 @@ ghost use Rattle.std.specs.Prelude.{◌≡◌};
 
 use super::delivery::{read_parts, read_thin};
 use super::folder::{StoredFile, is_same_name, is_taken_before, ordered_files};
-use super::spent::{SpentTry, Standing, closed_count, has_open, is_file_spent};
+use super::spent::{SpentTry, Standing, is_file_spent};
 use super::verdict::refusal;
 use crate::{End, UnitKey, is_thin_on};
 use bench_model::{Board, Device, Devices, Digests, is_device_name};
@@ -250,8 +250,6 @@ fn what_is_read_off_the_attempts(rt: HostRuntime) {
         attempt(alloc, &rt, 1, 0, Standing::Closed(End::Refused(3))),
         attempt(alloc, &rt, 2, 0, Standing::Open),
     ];
-    assert_eq!(rt; closed_count(&list), 1);
-    assert!(rt; has_open(&list));
     assert!(rt; is_file_spent(&list, 1));
     assert!(rt; !is_file_spent(&list, 2));
 }
