@@ -233,3 +233,88 @@ fn a_long_board_is_told(rt: HostRuntime) -> Result<(), Fail> {
     expect_named(&rt, board, "script", &[], 7, "long k.toml\n")?;
     Ok(())
 }
+
+/// The capsule header of 67,108,864 bytes: HeaderSize 28, flags 0x00050000.
+const SIZES_OF_THE_LARGEST: [u8; 12] = [0x1c, 0, 0, 0, 0, 0, 5, 0, 0, 0, 0, 4];
+
+/// UpdateImageIndex 1, UpdateImageSize 67,108,772, and zeros up to the image.
+const REST_OF_THE_LARGEST: [u8; 28] = [
+    1, 0, 0, 0, 0xa4, 0xff, 0xff, 3, 0, 0, 0, 0, 0, 0, 0, 0, 0, 0, 0, 0, 0, 0, 0, 0, 0, 0, 0, 0,
+];
+
+/// A thin delivery of the most bytes that an input may have.
+fn largest(alloc: Global) -> Result<Blob, NoMemory> {
+    let mut bytes = joined(
+        alloc,
+        &[
+            &FMP,
+            &SIZES_OF_THE_LARGEST,
+            &ONE_ITEM,
+            &AT_16,
+            &THIRD,
+            &SYS,
+            &REST_OF_THE_LARGEST,
+        ],
+    )?;
+    let piece = [0u8; 65_536];
+    for _ in 0..1023 {
+        bytes.push_slice(&piece)?;
+    }
+    bytes.push_slice(&piece[..65_444])?;
+    Ok(bytes)
+}
+
+/// The inputs of a play: the board, the script, four deliveries of the most bytes, and a small one.
+fn large(alloc: Global, script: &[&str]) -> Result<NoFaultInputs, NoMemory> {
+    let mut inputs = NoFaultInputs::new(alloc);
+    let board = text_of(alloc, &ONE_DEVICE)?;
+    inputs.add(Text::from_str(alloc, "k.toml")?, board)?;
+    inputs.add(Text::from_str(alloc, "script")?, text_of(alloc, script)?)?;
+    inputs.add(Text::from_str(alloc, "a")?, largest(alloc)?)?;
+    inputs.add(Text::from_str(alloc, "b")?, largest(alloc)?)?;
+    inputs.add(Text::from_str(alloc, "c")?, largest(alloc)?)?;
+    inputs.add(Text::from_str(alloc, "d")?, largest(alloc)?)?;
+    inputs.add(Text::from_str(alloc, "e")?, delivery(alloc, VERSION_4)?)?;
+    Ok(inputs)
+}
+
+fn expect_large(
+    rt: &(impl Abort + AllocGlobal),
+    script: &[&str],
+    status: u8,
+    text: &str,
+) -> Result<(), NoMemory> {
+    let alloc = rt.alloc();
+    let mut inputs = large(alloc, script)?;
+    let mut out = NoFaultSink::new(alloc);
+    let words = [
+        Text::from_str(alloc, "play")?,
+        Text::from_str(alloc, "k.toml")?,
+        Text::from_str(alloc, "script")?,
+    ];
+    let outcome = run(alloc, &words, &mut inputs, &mut out);
+    assert_eq!(rt; outcome.status, status);
+    assert!(rt; out.as_slice() == text.as_bytes());
+    Ok(())
+}
+
+#[test]
+fn the_sum_of_the_inputs_has_a_limit(rt: HostRuntime) -> Result<(), Fail> {
+    let four = [
+        "drop a.cap a",
+        "drop b.cap b",
+        "drop c.cap c",
+        "drop d.cap d",
+    ];
+    let text = "1 drop ok 1\n2 drop ok 2\n3 drop ok 3\n4 drop ok 4\ndone 4\n";
+    expect_large(&rt, &four, 0, text)?;
+    let five = [
+        "drop a.cap a",
+        "drop b.cap b",
+        "drop c.cap c",
+        "drop d.cap d",
+        "drop e.cap e",
+    ];
+    expect_large(&rt, &five, 7, "long e\n")?;
+    Ok(())
+}
