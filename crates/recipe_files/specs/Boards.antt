@@ -36,9 +36,11 @@ board_tests table =
     ∷ fault_if (nat_lt (number_in Bank table) (least_bank (number_in ResultMax table))) BankTooSmall Bank
     ∷ []
 
+-- the first fault of a document
 unfoldable pub board_test : Members → Option Fault
 board_test table = first_fault (board_tests table)
 
+-- the board that a document without a fault says
 unfoldable pub board_in : Members → BoardValue
 board_in table = record {
   bank = number_in Bank table;

@@ -59,6 +59,7 @@ device_in table = record {
   flags = number_in Flags table;
 }
 
+-- the first fault of the table of a device
 unfoldable pub table_test : List DeviceValue → Members → Option Fault
 table_test earlier table = first_fault (table_tests earlier table)
 
@@ -67,6 +68,7 @@ abbrev pub entry_fault : List DeviceValue → Option Members → Option Fault
 entry_fault earlier None = Some (record { kind = WrongKind; key = Device })
 entry_fault earlier (Some table) = table_test earlier table
 
+-- the first fault of an entry
 unfoldable pub entry_test : List DeviceValue → Data → Option Fault
 entry_test earlier d = entry_fault earlier (as_table d)
 
@@ -75,6 +77,7 @@ abbrev pub table_or_none : Option Members → Members
 table_or_none None = no_members
 table_or_none (Some table) = table
 
+-- the device of an entry
 unfoldable pub device_of : Data → DeviceValue
 device_of d = device_in (table_or_none (as_table d))
 

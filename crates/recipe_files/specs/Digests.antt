@@ -25,10 +25,12 @@ abbrev pub digest_of_text : List ℕ → Option Digest
 digest_of_text text =
     if list_all is_lower_digit text then option_map digest_of_bytes (result_ok (decode_sized text 32)) else None
 
+-- the fault of an entry as a digest
 unfoldable pub digest_test : Data → Option Fault
 digest_test d =
     option_map (λ kind. record { kind = kind; key = Digests })
     (kind_of_fault OutOfRange (λ text. is_some (digest_of_text text)) (as_str d))
 
+-- the digest of an entry
 unfoldable pub digest_of : Data → Digest
 digest_of d = unwrap_or (digest_of_text (text_of d)) (digest_of_bytes (replicate 32 0))

@@ -38,14 +38,18 @@ guid_of d = result_unwrap_or (guid_of_text (text_of d)) no_guid
 abbrev pub entries_of : Data → List Data
 entries_of d = entries (unwrap_or (as_array d) no_items)
 
+-- the number at a key
 unfoldable pub number_in : Key → Members → ℕ
 number_in key table = option_map_or number_of (get_member (key_name key) table) 0
 
+-- the text at a key
 unfoldable pub text_in : Key → Members → List ℕ
 text_in key table = option_map_or text_of (get_member (key_name key) table) []
 
+-- the GUID at a key
 unfoldable pub guid_in : Key → Members → Guid
 guid_in key table = option_map_or guid_of (get_member (key_name key) table) no_guid
 
+-- the entries of the list at a key
 unfoldable pub entries_in : Key → Members → List Data
 entries_in key table = option_map_or entries_of (get_member (key_name key) table) []
