@@ -7,13 +7,16 @@ use cu_base::{Failed, Names, Text};
 use std::alloc::Global;
 use std::fs::{File, OpenFile};
 use std::io;
-use std::io::{Read, Write};
+use std::io::{BufReader, Read, Write};
 use std::rt::Files;
 
-/// A file that is read. It tells no content.
+/// The most bytes that are read ahead of a file.
+const AHEAD_BYTES: usize = 65_536;
+
+/// A file that is read. It tells no content. Small reads are served from bytes that were read ahead.
 #[derive(Drop)]
 pub struct FileSource<F: Read + OpenFile + Drop> {
-    file: F,
+    file: BufReader<F>,
     taken: u64,
     faults: u64,
 }
@@ -41,7 +44,7 @@ impl<F: Read + OpenFile + Drop> Source for FileSource<F> {
     }
 
     fn expected_len(&self) -> u64 {
-        match self.file.metadata() {
+        match self.file.get_ref().metadata() {
             Ok(metadata) => metadata.len(),
             Err(_) => 0,
         }
@@ -93,16 +96,17 @@ impl<'a, R: Files> Inputs for FileInputs<'a, R> {
         if self.asked.push(kept).is_err() {
             return Err(OpenFault::Memory);
         }
-        match File::open(self.rt, name.as_str()) {
+        let Ok(file) = File::open(self.rt, name.as_str()) else {
+            self.faults = self.faults.saturating_add(1);
+            return Err(OpenFault::Failed);
+        };
+        match BufReader::with_capacity(alloc, AHEAD_BYTES, file) {
             Ok(file) => Ok(FileSource {
                 file,
                 taken: 0,
                 faults: 0,
             }),
-            Err(_) => {
-                self.faults = self.faults.saturating_add(1);
-                Err(OpenFault::Failed)
-            }
+            Err(_) => Err(OpenFault::Memory),
         }
     }
 

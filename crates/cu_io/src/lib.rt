@@ -12,6 +12,7 @@ mod memory;
 mod read;
 mod sink;
 mod source;
+mod stream;
 #[cfg(test)]
 mod tests;
 mod write;
@@ -23,4 +24,5 @@ pub use memory::{MemInputs, MemSink, MemSource, NoFaultInputs, NoFaultSink, NoFa
 pub use read::{ReadFault, read_whole};
 pub use sink::{Sink, SinkFault};
 pub use source::Source;
+pub use stream::{Room, Stream, StreamFault};
 pub use write::{WriteFault, write_whole};

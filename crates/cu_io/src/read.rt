@@ -20,7 +20,7 @@ pub enum ReadFault {
 }
 
 /// The most bytes that one read asks for.
-const PIECE_BYTES: usize = 65_536;
+pub(crate) const PIECE_BYTES: usize = 65_536;
 
 /// All that is left. Read comes only where the source's count rose, TooLong exactly where more than
 /// `limit` bytes are left, after `limit + 1` bytes were taken. After Read and Memory a part was taken.
@@ -75,7 +75,7 @@ fn take_piece<S: Source>(
 }
 
 /// Room for one read.
-fn piece(alloc: Global) -> Result<Vec<u8>, NoMemory>
+pub(crate) fn piece(alloc: Global) -> Result<Vec<u8>, NoMemory>
     ensures { IfOk result (λ piece. vec_len piece ≡ PIECE_BYTES) }
 {
     match Vec::from_elem(alloc, 0, PIECE_BYTES) {
