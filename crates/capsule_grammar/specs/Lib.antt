@@ -2,6 +2,7 @@ pub mod Accepted
 pub mod BackToBack
 pub mod Faults
 pub mod Fits
+pub mod Fronts
 pub mod Reading
 pub mod Rebuilt
 pub mod Refusals

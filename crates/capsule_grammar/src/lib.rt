@@ -16,6 +16,7 @@ mod faults;
 mod fitting;
 mod header;
 pub mod laws;
+mod parts;
 mod reading;
 mod rebuilding;
 mod refusal;
@@ -30,6 +31,9 @@ pub use decoding::decode;
 pub use encoding::encode;
 pub use faults::{DecodeFault, EncodeFault};
 pub use fitting::fits;
+pub use parts::{
+    check_fmp_header, check_image, check_offsets, driver_count, image_count, item_count, start_of,
+};
 pub use rebuilding::{is_rebuilt, rebuild};
 pub use refusal::{Refusal, Why};
 pub use value::{Body, Capsule, Capsules, FmpBody, Image, Images};

@@ -1,8 +1,10 @@
 //! Capsules written by hand from the tables of UEFI 2.10, 8.5.3 and 23.3.2.
 
+ghost use Rattle.std.specs.Prelude.{◌≤◌, length};
+
 use crate::{
-    Body, Capsule, DecodeFault, Refusal, Why, check, decode, decode_all, encode, fits, is_rebuilt,
-    rebuild,
+    Body, Capsule, DecodeFault, Refusal, Why, check, check_fmp_header, check_image, check_offsets,
+    decode, decode_all, encode, fits, is_rebuilt, item_count, rebuild, start_of,
 };
 use cu_base::{Blob, put_u16, put_u32, put_u64};
 use std::alloc::Global;
@@ -343,4 +345,75 @@ fn at_most_eight_capsules_back_to_back(rt: HostRuntime) -> Result<(), Fail> {
     second.push_slice(version_2.as_slice())?;
     all_refused(&rt, alloc, second.as_slice(), 56, Why::BadFmpVersion);
     Ok(())
+}
+
+/// Whether the header or the offset list is refused of a body at 28, by a front of it. Without refusal, where its
+/// items begin and the last one ends, if the front has the whole list of two.
+fn judged(front: &[u8], size: u32) -> Result<Option<[usize; 3]>, Refusal>
+    requires header { 8 ≤ length front.now }
+    requires small { size ≤ 1000 }
+{
+    check_fmp_header(front, size, 28)?;
+    let items = item_count(front);
+    if items != 2 || front.len() < 24 || (size as usize) < front.len() {
+        return Ok(None);
+    }
+    check_offsets(front, size, 28)?;
+    Ok(Some([
+        start_of(front, size, 0),
+        start_of(front, size, 1),
+        start_of(front, size, 2),
+    ]))
+}
+
+#[test]
+fn a_body_is_judged_by_its_front(rt: HostRuntime) {
+    let rising = [
+        1, 0, 0, 0, 1, 0, 1, 0, 24, 0, 0, 0, 0, 0, 0, 0, 25, 0, 0, 0, 0, 0, 0, 0,
+    ];
+    assert_eq!(rt; judged(&rising, 57), Ok(Some([24, 25, 57])));
+    let outside = refusal(44, Why::OffsetsOutside);
+    assert_eq!(rt; judged(&rising, 24), Err(outside));
+    let equal = [
+        1, 0, 0, 0, 0, 0, 2, 0, 24, 0, 0, 0, 0, 0, 0, 0, 24, 0, 0, 0, 0, 0, 0, 0,
+    ];
+    let not_rising = refusal(44, Why::OffsetsNotRising);
+    assert_eq!(rt; judged(&equal, 56), Err(not_rising));
+    let list_past_the_body = refusal(36, Why::Short);
+    assert_eq!(rt; judged(&equal[..8], 23), Err(list_past_the_body));
+    assert_eq!(rt; judged(&equal[..8], 24), Ok(None));
+}
+
+fn refusal(at: u32, why: Why) -> Refusal {
+    Refusal { at, why }
+}
+
+#[test]
+fn an_image_is_judged_by_its_head(rt: HostRuntime) {
+    let mut head = [0; 48];
+    head[0] = 2;
+    head[24] = 0x10;
+    head[28] = 0x20;
+    assert_eq!(rt;
+        check_image(&head[..32], 32, 100),
+        Err(refusal(100, Why::Short))
+    );
+    assert_eq!(rt;
+        check_image(&head[..39], 39, 100),
+        Err(refusal(100, Why::Short))
+    );
+    assert_eq!(rt;
+        check_image(&head[..40], 40, 100),
+        Err(refusal(124, Why::ImageOutside))
+    );
+    assert_eq!(rt;
+        check_image(&head, 87, 100),
+        Err(refusal(124, Why::ImageOutside))
+    );
+    assert_eq!(rt; check_image(&head, 88, 100), Ok(()));
+    head[0] = 4;
+    assert_eq!(rt;
+        check_image(&head, 88, 100),
+        Err(refusal(100, Why::BadImageVersion))
+    );
 }
