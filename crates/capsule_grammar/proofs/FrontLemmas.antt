@@ -1,15 +1,16 @@
 -- What the front of bytes tells of the whole.
-use Rattle.std.proofs.Common.{◌≡◌, ℕ, ◌+◌, ◌-◌, ◌*◌, ◌<◌, ◌≤◌, min, not, ltb, List, [], ◌∷◌, ◌++◌, length, take, drop, refl, sym, ap, ◌∙◌, ◌⊎◌, inl, inr, arith}
+use Rattle.std.proofs.Common.{◌≡◌, ℕ, ◌+◌, ◌-◌, ◌*◌, ◌<◌, ◌≤◌, ◌||◌, min, not, ltb, List, [], ◌∷◌, ◌++◌, length, take, drop, refl, sym, ap, ◌∙◌, ◌⊎◌, inl, inr, arith}
 use Rattle.std.proofs.lemmas.Bool.{cases_lt, cond-true, cond-false, lt-ltb, le-ltb}
 use Rattle.std.proofs.lemmas.Bool.Decides.{nat_tests}
 use Rattle.std.proofs.lemmas.List.{take_all, take_at, take-take, drop-take, length-take, length-append}
 use Rattle.cu_base.specs.Fields.{number, field, number_at, bytes_of}
 use Rattle.cu_base.specs.Refusals.{Row, row, first_refusal}
+use Rattle.fmp_headers.specs.CapsuleHeader.{header_size, image_size, is_short, has_bad_header_size, is_above_limit}
 use Rattle.fmp_headers.specs.ImageHeader.{image_version, is_image_version, image_header_size, image_header_rows}
 use Rattle.fmp_headers.proofs.Fields.{length-bytes_of}
-use Rattle.capsule_grammar.specs.Refusals.{driver_count, image_count, item_count, list_end, offset, bound, image_parts_size, image_rows}
+use Rattle.capsule_grammar.specs.Refusals.{driver_count, image_count, item_count, list_end, offset, bound, image_parts_size, image_rows, capsule_rows}
 use Rattle.capsule_grammar.specs.declared.refusal.Why.{Why}
-use Rattle.capsule_grammar.specs.declared.refusal.Why.TheVariants.{Short, BadImageVersion, ImageOutside}
+use Rattle.capsule_grammar.specs.declared.refusal.Why.TheVariants.{Short, BadHeaderSize, BadImageSize, BadImageVersion, ImageOutside}
 use Rattle.capsule_grammar.specs.Accepted.{AreBounds}
 use Rattle.capsule_grammar.specs.Fronts.{Begins, bound_by, ArePlaces}
 use Rattle.capsule_grammar.proofs.Offsets.{bound_is, bound_ends}
@@ -80,6 +81,23 @@ shorter_least {front} {bytes} least n b there low =
           let within = front_within b in
           le-ltb (length bytes) n (omega (arith, within, b.long)) ∙ sym (le-ltb (length front) n (omega arith))
     ]
+
+-- ---- the capsule header
+
+-- its rows, by the head and the length of the whole
+abbrev pub capsule_rows_by : List ℕ → ℕ → List (Row Why)
+capsule_rows_by head size =
+    row (is_short head) 0 Short
+    ∷ row (has_bad_header_size head) 16 BadHeaderSize
+    ∷ row (is_above_limit head || ltb size (image_size head)) 24 BadImageSize
+    ∷ []
+
+pub capsule_refusal_same : {head bytes : List ℕ} {size : ℕ} → Begins head size bytes → min 28 size ≤ length head → first_refusal (capsule_rows bytes) ≡ first_refusal (capsule_rows_by head size)
+capsule_refusal_same {head} {bytes} b there =
+    let h : header_size bytes ≡ header_size head = number_least 28 16 4 b there (omega arith) in
+    let i : image_size bytes ≡ image_size head = number_least 28 24 4 b there (omega arith) in
+    let s : is_short bytes ≡ is_short head = shorter_least 28 28 b there (omega arith) in
+    rw (h, i, s, b.long) refl
 
 -- ---- an image item, by its head
 

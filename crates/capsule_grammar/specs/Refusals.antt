@@ -106,9 +106,13 @@ fmp_rows body at = fmp_header_rows body at ++ (all_offset_rows body at ++ all_im
 
 -- ---- the whole table
 
+-- the rows of what follows the header, by the GUID
+abbrev pub body_rows : List ℕ → List (Row Why)
+body_rows bytes = if is_fmp_guid (field bytes 0 16) then fmp_rows (body_of bytes) (header_size bytes) else []
+
 -- the whole table of some bytes
 abbrev pub rows : List ℕ → List (Row Why)
-rows bytes = capsule_rows bytes ++ (if is_fmp_guid (field bytes 0 16) then fmp_rows (body_of bytes) (header_size bytes) else [])
+rows bytes = capsule_rows bytes ++ body_rows bytes
 
 -- the place and the cause of the refusal of these bytes, and None where a capsule stands at their front
 abbrev pub refusal : List ℕ → Option (ℕ × Why)

@@ -7,7 +7,7 @@ ghost use Rattle.capsule_grammar.specs.Accepted.{AreBounds};
 ghost use Rattle.capsule_grammar.specs.Refusals.{Answers, refusal, fmp_rows, all_image_rows, list_end, item_count, bound, item};
 
 use crate::Refusal;
-use crate::header::{front, is_fmp_guid};
+use crate::header::{check_capsule_header, is_fmp_guid};
 use crate::parts::{
     bound_by, check_fmp_header, check_image, check_offsets, driver_count, image_count,
 };
@@ -18,7 +18,7 @@ pub fn check(bytes: &[u8]) -> Result<usize, Refusal>
     ensures rows { Answers result (refusal bytes.now) }
     ensures length { IfOk result (λ n. n ≡ image_size bytes.now) }
 {
-    let header = front(bytes)?;
+    let header = check_capsule_header(bytes, bytes.len() as u64)?;
     if is_fmp_guid(&header.guid) {
         let body = &bytes[header.header_size as usize..header.image_size as usize];
         check_fmp(body, header.header_size)?;

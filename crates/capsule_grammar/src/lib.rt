@@ -31,6 +31,7 @@ pub use decoding::decode;
 pub use encoding::encode;
 pub use faults::{DecodeFault, EncodeFault};
 pub use fitting::fits;
+pub use header::{check_capsule_header, is_fmp_guid};
 pub use parts::{
     check_fmp_header, check_image, check_offsets, driver_count, image_count, item_count, start_of,
 };
