@@ -49,3 +49,7 @@ GoesOn most old new = (bytes : List ℕ) × (length bytes ≤ most) × Goes byte
 -- fewer bytes than this came, and none is left
 abbrev pub Ends : ℕ → Progress → Progress → Type 0
 Ends n old new = (bytes : List ℕ) × (length bytes < n) × Goes bytes old new × IsAtEnd new.left
+
+-- the bytes that came stand at the front of these, which are more, and none is left
+abbrev pub EndsIn : List ℕ → Progress → Progress → Type 0
+EndsIn out old new = (n : ℕ) × (n < length out) × Goes (take n out) old new × IsAtEnd new.left

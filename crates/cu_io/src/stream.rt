@@ -2,7 +2,7 @@ ghost use Rattle.std.specs.Prelude.{◌≡◌, ℕ, ◌+◌, ◌^◌, ◌<◌, �
 ghost use Rattle.std.specs.Io.{ReadsAtMost};
 ghost use Rattle.std.specs.Io.KnownBytes.{Consumes, IsAtEnd};
 ghost use Rattle.cu_base.specs.Causes.{HasCauseOf, RoseBy};
-ghost use Rattle.cu_io.specs.Streams.{Goes, Passes, GoesOn, Ends};
+ghost use Rattle.cu_io.specs.Streams.{Goes, Passes, GoesOn, Ends, EndsIn};
 
 use crate::Source;
 use crate::read::{PIECE_BYTES, piece};
@@ -105,13 +105,13 @@ impl<S: Source> Stream<S> {
         self.place
     }
 
-    /// Fills `out` with the next bytes. Ended comes where the source ends before, Failed only where its count
-    /// rose; then some of the bytes were taken.
+    /// Fills `out` with the next bytes. Ended comes where the source ends before; then what came stands at the
+    /// front of `out`. Failed comes only where the source's count rose; then some of the bytes were taken.
     pub fn fill(&mut self, out: &mut [u8]) -> Result<(), StreamFault>
         requires place { self.old.place + length out.old < 2 ^ 64 }
         ensures ok { OnOk result (Goes out.new self.old self.new) }
         ensures long { length out.new ≡ length out.old }
-        ensures ended { IsErrOf result StreamFault.Ended → Ends (length out.old) self.old self.new }
+        ensures ended { IsErrOf result StreamFault.Ended → EndsIn out.new self.old self.new }
         ensures some { OnErr result (GoesOn (length out.old) self.old self.new) }
         ensures cause { HasCauseOf StreamFault.Failed self.old.faults self.new.faults result }
     {
