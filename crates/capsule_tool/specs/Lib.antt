@@ -7,6 +7,8 @@ pub mod Kinds
 pub mod Plays
 pub mod Readings
 pub mod Runs
+pub mod ScanStops
+pub mod Scans
 pub mod Statuses
 pub mod Steps
 pub mod Told

@@ -15,6 +15,7 @@ mod kinds;
 mod limits;
 mod play;
 mod program;
+mod scan;
 mod status;
 mod step;
 #[cfg(test)]

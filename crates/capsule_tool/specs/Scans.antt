@@ -1,0 +1,67 @@
+-- What the scan of a file finds: its headers and its offset list are read in order, and all else is passed by.
+use Rattle.std.specs.Prelude.{◌≡◌, ℕ, ◌≤◌, ◌<◌, ◌+◌, min, List, [], ◌++◌, length, take, Option, None, Some, Result, Ok, Err, ⊤}
+use Rattle.std.specs.Io.KnownBytes.{IsAtEnd}
+use Rattle.cu_base.specs.Causes.{Rose}
+use Rattle.cu_base.specs.Refusals.{Row, first_refusal}
+use Rattle.cu_base.specs.declared.limits.TheConstants.{MAX_CAPSULE_BYTES}
+use Rattle.cu_io.specs.Streams.{Progress, Goes}
+use Rattle.capsule_grammar.specs.Fronts.{Begins}
+use Rattle.capsule_grammar.specs.Refusals.{capsule_rows, body_rows, image_rows}
+use Rattle.capsule_grammar.specs.declared.refusal.Why.{Why}
+use Rattle.capsule_tool.specs.declared.scan.stop.ScanStop.{ScanStop}
+use Rattle.capsule_tool.specs.declared.scan.stop.ScanStop.TheVariants.{Refused, Ended, Failed, Memory}
+
+-- Some bytes came. In every part of this size that begins with those that stood before and with them, this is the first
+-- row that holds.
+abbrev pub Tells : ℕ → (List ℕ → List (Row Why)) → List ℕ → Progress → Progress → Option (ℕ × Why) → Type 0
+Tells size rows before old new refused =
+    (bytes : List ℕ) × Goes bytes old new × (length (before ++ bytes) ≤ size)
+    × ((whole : List ℕ) → Begins (before ++ bytes) size whole → first_refusal (rows whole) ≡ refused)
+
+-- the part goes on behind what came, and no byte is left
+abbrev pub IsCut : ℕ → List ℕ → Progress → Progress → Type 0
+IsCut size before old new = (bytes : List ℕ) × Goes bytes old new × (length (before ++ bytes) < size) × IsAtEnd new.left
+
+-- what came of scanning a part of this size, of which some bytes stood before, for these rows
+abbrev pub Scans : {X : Type 0} → ℕ → (List ℕ → List (Row Why)) → List ℕ → Progress → Progress → Result X ScanStop → Type 0
+Scans size rows before old new (Ok done) = Tells size rows before old new None
+Scans size rows before old new (Err (Refused refusal)) = Tells size rows before old new (Some (refusal.at, refusal.why))
+Scans size rows before old new (Err Ended) = IsCut size before old new
+Scans size rows before old new (Err Failed) = Rose old.faults new.faults
+Scans size rows before old new (Err Memory) = ⊤
+
+-- Bytes came up to an item and then its head, which is at most 48 bytes of it. In every item of this size that begins so, this
+-- is the first row that holds.
+abbrev pub TellsImage : ℕ → ℕ → ℕ → Progress → Progress → Option (ℕ × Why) → Type 0
+TellsImage ahead size at old new refused =
+    (passed head : List ℕ) × (length passed ≡ ahead) × (length head ≡ min 48 size) × Goes (passed ++ head) old new
+    × ((image : List ℕ) → Begins head size image → first_refusal (image_rows image at) ≡ refused)
+
+-- what came of scanning an image item of this size that begins some bytes ahead
+abbrev pub ScansImage : ℕ → ℕ → ℕ → Progress → Progress → Result ℕ ScanStop → Type 0
+ScansImage ahead size at old new (Ok n) = (n ≡ min 48 size) × TellsImage ahead size at old new None
+ScansImage ahead size at old new (Err (Refused refusal)) = TellsImage ahead size at old new (Some (refusal.at, refusal.why))
+ScansImage ahead size at old new (Err Ended) = IsCut (ahead + size) [] old new
+ScansImage ahead size at old new (Err Failed) = Rose old.faults new.faults
+ScansImage ahead size at old new (Err Memory) = ⊤
+
+-- Some bytes came, of which head is the first 28. Every file that begins with them has no refused header only where this is
+-- the first row of its body that holds.
+abbrev pub TellsFile : List ℕ → Progress → Progress → Option (ℕ × Why) → Type 0
+TellsFile head old new refused =
+    (bytes : List ℕ) × Goes bytes old new × (28 ≤ length bytes) × (length bytes ≤ MAX_CAPSULE_BYTES) × (take 28 bytes ≡ head)
+    × ((file : List ℕ) → take (length bytes) file ≡ bytes → first_refusal (capsule_rows file) ≡ None → first_refusal (body_rows file) ≡ refused)
+
+-- all bytes came, whose front is that of head, and their capsule header is refused
+abbrev pub IsCutFile : List ℕ → Progress → Progress → Type 0
+IsCutFile head old new =
+    (bytes : List ℕ) × Goes bytes old new × IsAtEnd new.left × (length bytes ≤ MAX_CAPSULE_BYTES) × (take 28 bytes ≡ take (length bytes) head)
+    × (first_refusal (capsule_rows bytes) ≡ None → ⊥)
+
+-- what came of scanning a file
+abbrev pub ScansFile : {X : Type 0} → List ℕ → Progress → Progress → Result X ScanStop → Type 0
+ScansFile head old new (Ok done) = TellsFile head old new None
+ScansFile head old new (Err (Refused refusal)) = TellsFile head old new (Some (refusal.at, refusal.why))
+ScansFile head old new (Err Ended) = IsCutFile head old new
+ScansFile head old new (Err Failed) = Rose old.faults new.faults
+ScansFile head old new (Err Memory) = ⊤

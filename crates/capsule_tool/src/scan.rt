@@ -1,0 +1,106 @@
+//! A file is judged as it is read: its headers and its offset list are looked at, and all else is passed by.
+
+ghost use Rattle.std.specs.Prelude.{◌≡◌, ℕ, ◌+◌, ◌-◌, ◌^◌, ◌≤◌, ◌<◌, List, [], take, drop, length, None, IfOk, IsErrOf};
+ghost use Rattle.std.specs.Io.KnownBytes.{IsAtEnd};
+ghost use Rattle.cu_base.specs.Causes.{HasCauseOf};
+ghost use Rattle.cu_base.specs.Refusals.{first_refusal};
+ghost use Rattle.cu_io.specs.Streams.{Goes, Passes};
+ghost use Rattle.capsule_grammar.specs.Refusals.{Answers, capsule_rows, body_rows, fmp_rows};
+ghost use Rattle.capsule_tool.specs.Check.{verdict_of};
+ghost use Rattle.capsule_tool.specs.Scans.{Scans, ScansFile};
+
+mod body;
+mod stop;
+
+use crate::check::Verdict;
+use body::scan_body;
+use capsule_grammar::{Refusal, check_capsule_header, is_fmp_guid};
+use cu_base::MAX_CAPSULE_BYTES;
+use cu_io::{ReadFault, Source, Stream, StreamFault};
+use fmp_headers::CapsuleHeader;
+use std::alloc::Global;
+use stop::ScanStop;
+
+/// The bytes of the fields of a capsule header.
+const HEADER_BYTES: usize = 28;
+
+/// Judges the file that a stream begins, which is read to its end. TooLong comes exactly where it has more
+/// than 67,108,864 bytes, after one more was taken, and Read only where the source's count rose.
+pub fn judge_stream<S: Source>(alloc: Global, stream: &mut Stream<S>) -> Result<Verdict, ReadFault>
+    requires begun { stream.old.place ≡ 0 }
+    ensures judged { IfOk result (λ verdict. (bytes : List ℕ) × Goes bytes stream.old stream.new × IsAtEnd stream.new.left × (length bytes ≤ MAX_CAPSULE_BYTES) × (verdict ≡ verdict_of bytes)) }
+    ensures too_long { IsErrOf result ReadFault.TooLong → Passes (MAX_CAPSULE_BYTES + 1) stream.old stream.new }
+    ensures cause { HasCauseOf ReadFault.Read stream.old.faults stream.new.faults result }
+{
+    let mut head = [0u8; HEADER_BYTES];
+    let found = match scan(alloc, stream, &mut head) {
+        Ok(()) => Ok(()),
+        Err(ScanStop::Refused(refusal)) => Err(refusal),
+        Err(ScanStop::Ended) => return Ok(verdict(&head, stream.place(), Ok(()))),
+        Err(ScanStop::Failed) => return Err(ReadFault::Read),
+        Err(ScanStop::Memory) => return Err(ReadFault::Memory),
+    };
+    match stream.pass(MAX_CAPSULE_BYTES as u64 + 1 - stream.place()) {
+        Ok(()) => Err(ReadFault::TooLong),
+        Err(StreamFault::Ended) => Ok(verdict(&head, stream.place(), found)),
+        Err(StreamFault::Failed) => Err(ReadFault::Read),
+    }
+}
+
+/// The verdict on a file of `size` bytes, of which `head` has the first ones, by what was found of its body.
+fn verdict(head: &[u8], size: u64, found: Result<(), Refusal>) -> Verdict
+    requires head { length head.now ≡ 28 }
+    requires small { size < 2 ^ 32 }
+    ensures { (file : List ℕ) → length file ≡ size → take 28 file ≡ take size head.now → (first_refusal (capsule_rows file) ≡ None → Answers found (first_refusal (body_rows file))) → result ≡ verdict_of file }
+{
+    let there = (size as usize).min(HEADER_BYTES);
+    match check_capsule_header(&head[..there], size) {
+        Err(refusal) => Verdict::Refused(refusal),
+        Ok(header) => match found {
+            Err(refusal) => Verdict::Refused(refusal),
+            Ok(()) if (header.image_size as u64) < size => {
+                Verdict::Trailing(header.image_size as usize)
+            }
+            Ok(()) => Verdict::Whole(header.image_size as usize),
+        },
+    }
+}
+
+/// Scans a file as far as its headers say, and keeps its first bytes.
+fn scan<S: Source>(
+    alloc: Global,
+    stream: &mut Stream<S>,
+    head: &mut [u8; HEADER_BYTES],
+) -> Result<(), ScanStop>
+    requires begun { stream.old.place ≡ 0 }
+    ensures scan { ScansFile head.new stream.old stream.new result }
+    ensures later { stream.old.faults ≤ stream.new.faults }
+{
+    stream.fill(head)?;
+    match CapsuleHeader::read(head) {
+        Ok(header) if is_fmp_guid(&header.guid) => scan_rest(alloc, stream, &header),
+        _ => Ok(()),
+    }
+}
+
+/// Scans an FMP capsule behind its header, which was read.
+fn scan_rest<S: Source>(
+    alloc: Global,
+    stream: &mut Stream<S>,
+    header: &CapsuleHeader,
+) -> Result<(), ScanStop>
+    requires low { 28 ≤ header.now.header_size }
+    requires within { header.now.header_size ≤ header.now.image_size }
+    requires limit { header.now.image_size ≤ MAX_CAPSULE_BYTES }
+    requires begun { stream.old.place ≡ 28 }
+    ensures scan { Scans (header.now.image_size - 28) (λ rest. fmp_rows (drop (header.now.header_size - 28) rest) header.now.header_size) [] stream.old stream.new result }
+    ensures later { stream.old.faults ≤ stream.new.faults }
+{
+    stream.pass((header.header_size - HEADER_BYTES as u32) as u64)?;
+    scan_body(
+        alloc,
+        stream,
+        header.image_size - header.header_size,
+        header.header_size,
+    )
+}

@@ -1,0 +1,53 @@
+use capsule_grammar::Refusal;
+use cu_base::NoMemory;
+use cu_io::StreamFault;
+use thiserror::Error;
+
+/// Why a scan went no further.
+#[derive(Clone, Copy, Debug, PartialEq, Eq, Error)]
+pub enum ScanStop {
+    #[error("{0}")]
+    Refused(Refusal),
+    #[error("the input ends within the capsule")]
+    Ended,
+    #[error("a read failed")]
+    Failed,
+    #[error("out of memory")]
+    Memory,
+}
+
+impl From<Refusal> for ScanStop {
+    ghost use Rattle.std.specs.Prelude.{◌≡◌};
+    ghost use Rattle.capsule_tool.specs.declared.scan.stop.ScanStop.TheVariants.{Refused};
+
+    ghost from_gives = { λ r e. e ≡ Refused r };
+
+    fn from(refusal: Refusal) -> ScanStop {
+        ScanStop::Refused(refusal)
+    }
+}
+
+impl From<StreamFault> for ScanStop {
+    ghost use Rattle.std.specs.Prelude.{◌≡◌};
+    ghost use Rattle.capsule_tool.specs.ScanStops.{stop_of};
+
+    ghost from_gives = { λ fault e. e ≡ stop_of fault };
+
+    fn from(fault: StreamFault) -> ScanStop {
+        match fault {
+            StreamFault::Ended => ScanStop::Ended,
+            StreamFault::Failed => ScanStop::Failed,
+        }
+    }
+}
+
+impl From<NoMemory> for ScanStop {
+    ghost use Rattle.std.specs.Prelude.{◌≡◌};
+    ghost use Rattle.capsule_tool.specs.declared.scan.stop.ScanStop.TheVariants.{Memory};
+
+    ghost from_gives = { λ _ e. e ≡ Memory };
+
+    fn from(_: NoMemory) -> ScanStop {
+        ScanStop::Memory
+    }
+}
