@@ -107,7 +107,6 @@ pub fn check_offsets(front: &[u8], size: u32, at: u32) -> Result<(), Refusal>
 /// Where item `k` begins in a body of this front and size, and where the last one ends.
 pub fn start_of(front: &[u8], size: u32, k: u32) -> usize
     requires list { list_end front.now ≤ length front.now }
-    requires within { length front.now ≤ size }
     requires there { k ≤ item_count front.now }
     ensures value { result ≡ bound_by front.now size k }
     ensures whole { (body : List ℕ) → Begins front.now size body → result ≡ bound body k }
