@@ -5,7 +5,8 @@
 //! list of bytes begins with a spelling or is refused at one place for one cause, and never both: these are the
 //! laws of `laws`. `check` takes no memory and copies nothing. `decode` gives the capsule in blobs of its own,
 //! `decode_all` one to eight of them back to back, and `encode` writes one. `rebuild` writes the capsule at the
-//! front of bytes again without its lead and its pads.
+//! front of bytes again without its lead and its pads. `check_fmp_header`, `check_offsets` and `check_image` judge
+//! a part by its first bytes and its length, for a reader that does not keep the rest.
 #![tactic(auto)]
 
 mod all;

@@ -1,11 +1,11 @@
 //! The checks of the parts of a capsule, by their first bytes and their length. They speak of all bytes that
 //! have this front and this length, so who calls them need not have the rest.
 
-ghost use Rattle.std.specs.Prelude.{◌≡◌, ℕ, List, ◌+◌, ◌*◌, ◌-◌, ◌≤◌, ◌<◌, ◌^◌, OnOk, length, min, None};
+ghost use Rattle.std.specs.Prelude.{◌≡◌, ℕ, List, ◌+◌, ◌≤◌, ◌<◌, ◌^◌, OnOk, length, min};
 ghost use Rattle.cu_base.specs.Refusals.{first_refusal};
 ghost use Rattle.capsule_grammar.specs.Accepted.{AreBounds};
 ghost use Rattle.capsule_grammar.specs.Fronts.{Begins, bound_by, ArePlaces};
-ghost use Rattle.capsule_grammar.specs.Refusals.{Answers, fmp_header_rows, offset_rows, all_offset_rows, image_rows, list_end, driver_count, image_count, item_count, bound, offset};
+ghost use Rattle.capsule_grammar.specs.Refusals.{Answers, fmp_header_rows, offset_rows, all_offset_rows, image_rows, list_end, driver_count, image_count, item_count, bound};
 
 use crate::{Refusal, Why};
 use fmp_headers::{HeaderFault, ImageHeader, image_header_size, u16_at, u32_at, u64_at};
@@ -107,7 +107,6 @@ pub fn check_offsets(front: &[u8], size: u32, at: u32) -> Result<(), Refusal>
 /// Where item `k` begins in a body of this front and size, and where the last one ends.
 pub fn start_of(front: &[u8], size: u32, k: u32) -> usize
     requires list { list_end front.now ≤ length front.now }
-    requires within { length front.now ≤ size }
     requires there { k ≤ item_count front.now }
     ensures value { result ≡ bound_by front.now size k }
     ensures whole { (body : List ℕ) → Begins front.now size body → result ≡ bound body k }

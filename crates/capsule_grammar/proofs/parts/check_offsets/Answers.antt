@@ -1,11 +1,9 @@
-use Rattle.std.proofs.Common.{◌≡◌, ◌≤◌, ◌+◌, List, ℕ, length, arith, below_more}
+use Rattle.std.proofs.Common.{◌≡◌, ◌≤◌, length, arith, below_more}
 use Rattle.std.proofs.lemmas.Result.{err_from_is_err_and}
-use Rattle.capsule_grammar.specs.Accepted.{AreBounds}
 use Rattle.capsule_grammar.specs.Refusals.{offset_rows, item_count, list_end}
-use Rattle.capsule_grammar.specs.Fronts.{Begins}
 use Rattle.capsule_grammar.proofs.Tables.{some_in, none_in}
 use Rattle.capsule_grammar.proofs.Offsets.{are_bounds}
-use Rattle.capsule_grammar.proofs.FrontLemmas.{item_count_same, list_end_same, are_places}
+use Rattle.capsule_grammar.proofs.FrontLemmas.{item_count_same, are_places}
 use Rattle.capsule_grammar.proofs.parts.check_offsets.Goals as goal
 
 pub returns-in_err-check_offset-clause-rows : goal.returns-in_err-check_offset-clause-rows
