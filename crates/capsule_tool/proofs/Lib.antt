@@ -1,5 +1,9 @@
 pub mod ComingLaws
+pub mod FileLaws
+pub mod ImageLaws
 pub mod NameLaws
 pub mod PlayLaws
 pub mod RunLaws
+pub mod ScanLaws
+pub mod VerdictLaws
 pub mod WorkLaws

@@ -4,9 +4,10 @@ use Rattle.std.specs.Io.KnownBytes.{IsAtEnd}
 use Rattle.cu_base.specs.Causes.{Rose}
 use Rattle.cu_base.specs.Refusals.{Row, first_refusal}
 use Rattle.cu_base.specs.declared.limits.TheConstants.{MAX_CAPSULE_BYTES}
-use Rattle.cu_io.specs.Streams.{Progress, Goes}
+use Rattle.cu_io.specs.Streams.{Progress, Goes, Ends}
 use Rattle.capsule_grammar.specs.Fronts.{Begins}
-use Rattle.capsule_grammar.specs.Refusals.{capsule_rows, body_rows, image_rows}
+use Rattle.capsule_grammar.specs.Refusals.{Answers, capsule_rows, body_rows, image_rows}
+use Rattle.capsule_grammar.specs.declared.refusal.Refusal.{Refusal}
 use Rattle.capsule_grammar.specs.declared.refusal.Why.{Why}
 use Rattle.capsule_tool.specs.declared.scan.stop.ScanStop.{ScanStop}
 use Rattle.capsule_tool.specs.declared.scan.stop.ScanStop.TheVariants.{Refused, Ended, Failed, Memory}
@@ -29,6 +30,13 @@ Scans size rows before old new (Err (Refused refusal)) = Tells size rows before 
 Scans size rows before old new (Err Ended) = IsCut size before old new
 Scans size rows before old new (Err Failed) = Rose old.faults new.faults
 Scans size rows before old new (Err Memory) = ⊤
+
+-- fewer bytes than this came and none is left; or a read failed, or memory ran out
+abbrev pub IsStop : ℕ → Progress → Progress → ScanStop → Type 0
+IsStop size old new (Refused refusal) = ⊥
+IsStop size old new Ended = Ends size old new
+IsStop size old new Failed = Rose old.faults new.faults
+IsStop size old new Memory = ⊤
 
 -- Bytes came up to an item and then its head, which is at most 48 bytes of it. In every item of this size that begins so, this
 -- is the first row that holds.
@@ -57,6 +65,13 @@ abbrev pub IsCutFile : List ℕ → Progress → Progress → Type 0
 IsCutFile head old new =
     (bytes : List ℕ) × Goes bytes old new × IsAtEnd new.left × (length bytes ≤ MAX_CAPSULE_BYTES) × (take 28 bytes ≡ take (length bytes) head)
     × (first_refusal (capsule_rows bytes) ≡ None → ⊥)
+
+-- a file of this many bytes, of which head has the first 28 or all; and this was found of its body, where its capsule header
+-- is not refused
+pub record IsFound (head : List ℕ) (size : ℕ) (found : Result (Unit {0}) Refusal) (file : List ℕ) : Type 0 where
+  pub long : length file ≡ size
+  pub front : take 28 file ≡ take size head
+  pub body : first_refusal (capsule_rows file) ≡ None → Answers found (first_refusal (body_rows file))
 
 -- what came of scanning a file
 abbrev pub ScansFile : {X : Type 0} → List ℕ → Progress → Progress → Result X ScanStop → Type 0

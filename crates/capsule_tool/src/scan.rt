@@ -1,13 +1,12 @@
 //! A file is judged as it is read: its headers and its offset list are looked at, and all else is passed by.
 
-ghost use Rattle.std.specs.Prelude.{◌≡◌, ℕ, ◌+◌, ◌-◌, ◌^◌, ◌≤◌, ◌<◌, List, [], take, drop, length, None, IfOk, IsErrOf};
+ghost use Rattle.std.specs.Prelude.{◌≡◌, ℕ, ◌+◌, ◌-◌, ◌^◌, ◌≤◌, ◌<◌, List, [], drop, length, IfOk, IsErrOf};
 ghost use Rattle.std.specs.Io.KnownBytes.{IsAtEnd};
 ghost use Rattle.cu_base.specs.Causes.{HasCauseOf};
-ghost use Rattle.cu_base.specs.Refusals.{first_refusal};
 ghost use Rattle.cu_io.specs.Streams.{Goes, Passes};
-ghost use Rattle.capsule_grammar.specs.Refusals.{Answers, capsule_rows, body_rows, fmp_rows};
+ghost use Rattle.capsule_grammar.specs.Refusals.{fmp_rows};
 ghost use Rattle.capsule_tool.specs.Check.{verdict_of};
-ghost use Rattle.capsule_tool.specs.Scans.{Scans, ScansFile};
+ghost use Rattle.capsule_tool.specs.Scans.{Scans, ScansFile, IsFound};
 
 mod body;
 mod stop;
@@ -33,16 +32,30 @@ pub fn judge_stream<S: Source>(alloc: Global, stream: &mut Stream<S>) -> Result<
     ensures cause { HasCauseOf ReadFault.Read stream.old.faults stream.new.faults result }
 {
     let mut head = [0u8; HEADER_BYTES];
-    let found = match scan(alloc, stream, &mut head) {
-        Ok(()) => Ok(()),
-        Err(ScanStop::Refused(refusal)) => Err(refusal),
-        Err(ScanStop::Ended) => return Ok(verdict(&head, stream.place(), Ok(()))),
-        Err(ScanStop::Failed) => return Err(ReadFault::Read),
-        Err(ScanStop::Memory) => return Err(ReadFault::Memory),
-    };
+    match scan(alloc, stream, &mut head) {
+        Ok(()) => judge_rest(stream, &head, Ok(())),
+        Err(ScanStop::Refused(refusal)) => judge_rest(stream, &head, Err(refusal)),
+        Err(ScanStop::Ended) => Ok(verdict(&head, stream.place(), Ok(()))),
+        Err(ScanStop::Failed) => Err(ReadFault::Read),
+        Err(ScanStop::Memory) => Err(ReadFault::Memory),
+    }
+}
+
+/// Passes by the rest of a file, whose first bytes are `head`, and judges it by what was found of its body.
+fn judge_rest<S: Source>(
+    stream: &mut Stream<S>,
+    head: &[u8],
+    found: Result<(), Refusal>,
+) -> Result<Verdict, ReadFault>
+    requires head { length head.now ≡ 28 }
+    requires place { stream.old.place ≤ MAX_CAPSULE_BYTES }
+    ensures judged { IfOk result (λ verdict. (rest : List ℕ) × Goes rest stream.old stream.new × IsAtEnd stream.new.left × (stream.new.place ≤ MAX_CAPSULE_BYTES) × ((file : List ℕ) → IsFound head.now stream.new.place found file → verdict ≡ verdict_of file)) }
+    ensures too_long { IsErrOf result ReadFault.TooLong → Passes (MAX_CAPSULE_BYTES + 1 - stream.old.place) stream.old stream.new }
+    ensures cause { HasCauseOf ReadFault.Read stream.old.faults stream.new.faults result }
+{
     match stream.pass(MAX_CAPSULE_BYTES as u64 + 1 - stream.place()) {
         Ok(()) => Err(ReadFault::TooLong),
-        Err(StreamFault::Ended) => Ok(verdict(&head, stream.place(), found)),
+        Err(StreamFault::Ended) => Ok(verdict(head, stream.place(), found)),
         Err(StreamFault::Failed) => Err(ReadFault::Read),
     }
 }
@@ -51,7 +64,7 @@ pub fn judge_stream<S: Source>(alloc: Global, stream: &mut Stream<S>) -> Result<
 fn verdict(head: &[u8], size: u64, found: Result<(), Refusal>) -> Verdict
     requires head { length head.now ≡ 28 }
     requires small { size < 2 ^ 32 }
-    ensures { (file : List ℕ) → length file ≡ size → take 28 file ≡ take size head.now → (first_refusal (capsule_rows file) ≡ None → Answers found (first_refusal (body_rows file))) → result ≡ verdict_of file }
+    ensures { (file : List ℕ) → IsFound head.now size found file → result ≡ verdict_of file }
 {
     let there = (size as usize).min(HEADER_BYTES);
     match check_capsule_header(&head[..there], size) {

@@ -5,13 +5,13 @@ ghost use Rattle.cu_base.specs.Refusals.{first_refusal};
 ghost use Rattle.cu_io.specs.Streams.{Goes};
 ghost use Rattle.capsule_grammar.specs.Fronts.{Begins, ArePlaces};
 ghost use Rattle.capsule_grammar.specs.Refusals.{list_end, fmp_rows, fmp_header_rows, all_image_rows, image_rows};
-ghost use Rattle.capsule_tool.specs.Scans.{Scans, ScansImage, IsImageHead};
+ghost use Rattle.capsule_tool.specs.Scans.{Scans, ScansImage, IsStop};
 
 use super::stop::ScanStop;
 use capsule_grammar::{
     check_fmp_header, check_image, check_offsets, driver_count, image_count, item_count, start_of,
 };
-use cu_base::NoMemory;
+use cu_base::Blob;
 use cu_io::{Source, Stream};
 use std::alloc::Global;
 
@@ -44,34 +44,42 @@ fn scan_front<S: Source>(
     stream: &mut Stream<S>,
     size: u32,
     at: u32,
-) -> Result<Vec<u8>, ScanStop>
+) -> Result<Blob, ScanStop>
     requires small { at + size < 2 ^ 31 }
     requires place { stream.old.place + size < 2 ^ 63 }
-    ensures front { IfOk result (λ front. Goes front.items stream.old stream.new) }
-    ensures list { IfOk result (λ front. length front.items ≡ list_end front.items) }
-    ensures within { IfOk result (λ front. length front.items ≤ size) }
-    ensures rows { IfOk result (λ front. (body : List ℕ) → Begins front.items size body → first_refusal (fmp_header_rows body at) ≡ None) }
+    ensures front { IfOk result (λ front. Goes front stream.old stream.new) }
+    ensures list { IfOk result (λ front. length front ≡ list_end front) }
+    ensures within { IfOk result (λ front. length front ≤ size) }
+    ensures rows { IfOk result (λ front. (body : List ℕ) → Begins front size body → first_refusal (fmp_header_rows body at) ≡ None) }
     ensures stop { IfErr result (λ stop. Scans {X = List ℕ} size (λ body. fmp_header_rows body at) [] stream.old stream.new (Err stop)) }
     ensures later { stream.old.faults ≤ stream.new.faults }
 {
     let mut head = [0u8; FMP_HEADER_BYTES];
-    let there = FMP_HEADER_BYTES.min(size as usize);
-    stream.fill(&mut head[..there])?;
-    check_fmp_header(&head[..there], size, at)?;
-    let mut front = zeros(alloc, FMP_HEADER_BYTES + 8 * item_count(&head) as usize)?;
-    front[..FMP_HEADER_BYTES].copy_from_slice(&head);
-    stream.fill(&mut front[FMP_HEADER_BYTES..])?;
+    let head = &mut head[..FMP_HEADER_BYTES.min(size as usize)];
+    stream.fill(head)?;
+    check_fmp_header(head, size, at)?;
+    let mut front = Blob::from_slice(alloc, head)?;
+    let list = next_bytes(alloc, stream, 8 * item_count(head) as usize)?;
+    front.push_slice(list.as_slice())?;
     Ok(front)
 }
 
-/// Room for this many bytes.
-fn zeros(alloc: Global, size: usize) -> Result<Vec<u8>, NoMemory>
-    ensures { IfOk result (λ bytes. length bytes.items ≡ size) }
+/// The next `size` bytes.
+fn next_bytes<S: Source>(
+    alloc: Global,
+    stream: &mut Stream<S>,
+    size: usize,
+) -> Result<Vec<u8>, ScanStop>
+    requires place { stream.old.place + size < 2 ^ 63 }
+    ensures ok { IfOk result (λ bytes. (length bytes.items ≡ size) × Goes bytes.items stream.old stream.new) }
+    ensures stop { IfErr result (λ stop. IsStop size stream.old stream.new stop) }
+    ensures later { stream.old.faults ≤ stream.new.faults }
 {
-    match Vec::from_elem(alloc, 0, size) {
-        Ok(bytes) => Ok(bytes),
-        Err(_) => Err(NoMemory),
-    }
+    let Ok(mut bytes) = Vec::from_elem(alloc, 0u8, size) else {
+        return Err(ScanStop::Memory);
+    };
+    stream.fill(bytes.as_mut_slice())?;
+    Ok(bytes)
 }
 
 /// Scans the images behind the front of a body, which was read.
@@ -82,7 +90,7 @@ fn scan_images<S: Source>(
     at: u32,
 ) -> Result<(), ScanStop>
     requires small { at + size < 2 ^ 31 }
-    requires place { stream.old.place + size < 2 ^ 63 }
+    requires place { stream.old.place + size < 2 ^ 63 + length front.now }
     requires list { length front.now ≡ list_end front.now }
     requires within { length front.now ≤ size }
     requires places { ArePlaces front.now size }
