@@ -1,17 +1,17 @@
 -- The names of a script's inputs: each once, and each loaded when the play begins.
 use Rattle.std.proofs.Common.{◌≡◌, ℕ, zero, suc, Bool, true, false, not, ◌&&◌, ◌||◌, cond, List, [], ◌∷◌, get_or, map, take, drop, Option, None, Some, refl, sym, ◌∙◌, ap}
 use Rattle.std.specs.Prelude.{unwrap_or}
-use Rattle.std.specs.List.{list_all, filter, filter_map}
+use Rattle.std.specs.List.{list_all, filter, filter_map, AllByRecursion}
 use Rattle.std.specs.Str.{bytes_eq}
 use Rattle.std.proofs.Math.Seq.{drop-nil}
 use Rattle.std.proofs.lemmas.Slice.Eq.{bytes_eq-Decides}
 use Rattle.bench_model.specs.Boards.{BoardValue}
 use Rattle.cu_io.specs.Named.{Named, bytes_named, LacksName}
+use Rattle.reset_play.specs.Laws.{Distinct}
 use Rattle.reset_play.specs.Plays.{is_of_files, is_thin_on, loaded_bytes, can_play}
 use Rattle.reset_play.specs.ScriptInputs.{mention, once, has_name, inputs_of}
 use Rattle.reset_play.specs.declared.event.Event.{Event}
 use Rattle.reset_play.specs.declared.event.Event.TheVariants.{Time, Drop, Signal, Lay, Poke, Stage, Boot, Arm, Fail, Reset, Show}
-use Rattle.capsule_tool.specs.Plays.{AreDistinct}
 
 -- small facts
 cc_false : false ≡ true → ⊥
@@ -27,6 +27,11 @@ or_true_right : (a b : Bool) → b ≡ true → (a || b) ≡ true
 or_true_right true b is = refl
 or_true_right false b is = is
 
+or_false : (a b : Bool) → (a || b) ≡ false → (a ≡ false) × (b ≡ false)
+or_false false false is = (refl, refl)
+or_false false true is = absurd (cc_false (sym is))
+or_false true b is = absurd (cc_false (sym is))
+
 -- equality of names
 same_name : (a b : List ℕ) → bytes_eq a b ≡ true → a ≡ b
 same_name a b is = (bytes_eq-Decides a b).0 is
@@ -34,67 +39,18 @@ same_name a b is = (bytes_eq-Decides a b).0 is
 eq_itself : (a : List ℕ) → bytes_eq a a ≡ true
 eq_itself a = (bytes_eq-Decides a a).1 refl
 
-not_same : (a b : List ℕ) (back : Bool) → bytes_eq a b ≡ false → bytes_eq b a ≡ back → bytes_eq b a ≡ false
-not_same a b false differ is = is
-not_same a b true differ is = absurd (cc_false (sym differ ∙ (bytes_eq-Decides a b).1 (sym (same_name b a is))))
-
--- names that are not the one at the head
-not_kept : (n x : List ℕ) (same : Bool) (kept : List (List ℕ)) → bytes_eq n x ≡ same → has_name n kept ≡ false
-    → has_name n (cond (not same) (x ∷ kept) kept) ≡ false
-not_kept n x true kept is others = others
-not_kept n x false kept is others = rw (not_same n x (bytes_eq x n) is refl) others
-
-not_filtered : (n : List ℕ) (xs : List (List ℕ)) → has_name n (filter (λ other. not (bytes_eq n other)) xs) ≡ false
-not_filtered n [] = refl
-not_filtered n (x ∷ xs) = not_kept n x (bytes_eq n x) (filter (λ other. not (bytes_eq n other)) xs) refl (not_filtered n xs)
-
--- a filter brings no name
-or_false : (a b : Bool) → (a || b) ≡ false → (a ≡ false) × (b ≡ false)
-or_false false false is = (refl, refl)
-or_false false true is = absurd (cc_false (sym is))
-or_false true b is = absurd (cc_false (sym is))
-
-lacks_kept : (n x : List ℕ) (keeps : Bool) (kept : List (List ℕ)) → bytes_eq x n ≡ false → has_name n kept ≡ false
-    → has_name n (cond keeps (x ∷ kept) kept) ≡ false
-lacks_kept n x true kept is others = rw is others
-lacks_kept n x false kept is others = others
-
-lacks_filtered : (n : List ℕ) (p : List ℕ → Bool) (xs : List (List ℕ)) → has_name n xs ≡ false → has_name n (filter p xs) ≡ false
-lacks_filtered n p [] lacks = refl
-lacks_filtered n p (x ∷ xs) lacks =
-    let (differ, others) = or_false (bytes_eq x n) (has_name n xs) lacks in
-    lacks_kept n x (p x) (filter p xs) differ (lacks_filtered n p xs others)
-
-distinct_kept : (x : List ℕ) (keeps : Bool) (kept : List (List ℕ)) → has_name x kept ≡ false → AreDistinct kept
-    → AreDistinct (cond keeps (x ∷ kept) kept)
-distinct_kept x true kept lacks distinct = (lacks, distinct)
-distinct_kept x false kept lacks distinct = distinct
-
-distinct_filtered : (p : List ℕ → Bool) (xs : List (List ℕ)) → AreDistinct xs → AreDistinct (filter p xs)
-distinct_filtered p [] distinct = tt
-distinct_filtered p (x ∷ xs) (lacks, distinct) =
-    distinct_kept x (p x) (filter p xs) (lacks_filtered x p xs lacks) (distinct_filtered p xs distinct)
-
-pub once_distinct : (names : List (List ℕ)) → AreDistinct (once names)
-once_distinct [] = tt
-once_distinct (n ∷ names) = (not_filtered n (once names), distinct_filtered (λ other. not (bytes_eq n other)) (once names) (once_distinct names))
+-- what holds of each name holds of the one at a place
+all_at : (P : List ℕ → Type 0) (n : List ℕ) (names : List (List ℕ)) (i : ℕ) (rest : List (List ℕ)) → drop i names ≡ n ∷ rest → AllByRecursion P names → P n
+all_at P n [] i rest is all = absurd (nil_cons (sym (drop-nil i) ∙ is))
+all_at P n (name ∷ names) zero rest is (holds, all) = rw (heads name n names rest is) at holds
+all_at P n (name ∷ names) (suc i) rest is (holds, all) = all_at P n names i rest is all
 
 -- a name at a place is none of those before it
-has_at : (n : List ℕ) (names : List (List ℕ)) (i : ℕ) (rest : List (List ℕ)) → drop i names ≡ n ∷ rest → (x : List ℕ) → has_name x names ≡ false
-    → bytes_eq n x ≡ false
-has_at n [] i rest is x lacks = absurd (nil_cons (sym (drop-nil i) ∙ is))
-has_at n (name ∷ names) zero rest is x lacks =
-    let (differ, others) = or_false (bytes_eq name x) (has_name x names) lacks in
-    ap (λ y. bytes_eq y x) (sym (heads name n names rest is)) ∙ differ
-has_at n (name ∷ names) (suc i) rest is x lacks =
-    let (differ, others) = or_false (bytes_eq name x) (has_name x names) lacks in
-    has_at n names i rest is x others
-
-pub new_at : (names : List (List ℕ)) (i : ℕ) (n : List ℕ) (rest : List (List ℕ)) → AreDistinct names → drop i names ≡ n ∷ rest → has_name n (take i names) ≡ false
+pub new_at : (names : List (List ℕ)) (i : ℕ) (n : List ℕ) (rest : List (List ℕ)) → Distinct bytes_eq names → drop i names ≡ n ∷ rest → has_name n (take i names) ≡ false
 new_at [] i n rest distinct is = absurd (nil_cons (sym (drop-nil i) ∙ is))
 new_at (name ∷ names) zero n rest distinct is = refl
-new_at (name ∷ names) (suc i) n rest (lacks, distinct) is =
-    rw (not_same n name (bytes_eq name n) (has_at n names i rest is name lacks) refl) (new_at names i n rest distinct is)
+new_at (name ∷ names) (suc i) n rest (others, distinct) is =
+    rw (all_at (λ other. bytes_eq name other ≡ false) n names i rest is others) (new_at names i n rest distinct is)
 
 -- a name that no loaded one has is not loaded
 lacks_at : (same : Bool) (bytes : List ℕ) (rest : Option (List ℕ)) → same ≡ false → rest ≡ None → cond same (Some bytes) rest ≡ None
@@ -176,6 +132,3 @@ pub plays : (board : BoardValue) (loaded : Named) (events : List Event)
 plays board loaded events files names thin =
     can_all board loaded events
     (λ name has. named_thin board loaded name thin (ap (has_name name) names ∙ once_has name (filter_map mention events) has)) files
-
-pub distinct_inputs : (events : List Event) (names : List (List ℕ)) → names ≡ inputs_of events → AreDistinct names
-distinct_inputs events names is = rw is (once_distinct (filter_map mention events))

@@ -20,7 +20,7 @@ use Rattle.capsule_tool.specs.Findings.{Finding, bare}
 use Rattle.capsule_tool.specs.Forms.{form_of}
 use Rattle.capsule_tool.specs.Plays.{board_next, script_work, script_next, inputs_work}
 use Rattle.capsule_tool.specs.Readings.{Seen, reading_of}
-use Rattle.capsule_tool.specs.Runs.{Writes, EndsWith, AnswersAsTold, IsUsage, IsUnread, IsLongOne, IsLong, IsTrace, IsAsked, Judges, WritesFront}
+use Rattle.capsule_tool.specs.Runs.{Writes, AnswersAsTold, IsUsage, IsUnread, IsLongOne, IsLong, Judges, EndsBy}
 use Rattle.capsule_tool.specs.Statuses.{code_of}
 use Rattle.capsule_tool.specs.Told.{word, work_by, work_of, told}
 use Rattle.capsule_tool.specs.Works.{Work, by_reading, told_by, Comes, ComesTo, EndsAt, MayFind}
@@ -263,11 +263,6 @@ written answer status k w w' g g' (inr (inr (same, front))) is not5 not6 = absur
 appends_as : (a b : Finding) (w w' : Option (List ℕ)) → a ≡ b → Appends w w' a.answer.text → Appends w w' b.answer.text
 appends_as a b w w' same appends = rw (ap (λ (x : Finding). x.answer.text) same) at appends
 
-ends_as : (finding : Finding) (status : ℕ) (w w' : Option (List ℕ)) (g g' : ℕ) → Writes finding.answer status w w' g g' → EndsWith finding status
-ends_as finding status w w' g g' (inl (same, appends)) = inl same
-ends_as finding status w w' g g' (inr (inl (same, rose, front))) = inr (inl same)
-ends_as finding status w w' g g' (inr (inr (same, front))) = inr (inr same)
-
 -- the clauses of a run that found this and wrote it
 exact : (words : List (List ℕ)) (named : Named) (b a : Seen) (finding : Finding) (status : ℕ) (w w' : Option (List ℕ)) (g g' : ℕ)
     → finding ≡ told words named → Writes finding.answer status w w' g g' → ¬ Rose g g' → AnswersAsTold (Some named) words status finding.trace w w'
@@ -390,22 +385,17 @@ traced : (named : Option Named) (words : List (List ℕ)) (b a : Seen) (finding 
 traced named words b a finding (inl (readings, comes, took)) = traced_end (form_of words) finding (coming_end (form_of words) words named readings finding comes)
 traced named words b a finding (inr (work, m, comes, ends)) = inl (decided named work m a finding ends).1
 
-told_trace : (finding : Finding) (status : ℕ) (w w' : Option (List ℕ)) (g g' : ℕ) → (finding.trace ≡ []) ⊎ (code_of finding.answer.status ≡ 0)
+pub found_run : (named : Option Named) (words : List (List ℕ)) (b a : Seen) (finding : Finding) (status : ℕ) (w w' : Option (List ℕ)) (g g' : ℕ)
+    → MayFind named (work_of words) b a finding → Writes finding.answer status w w' g g' → EndsBy (work_of words) named b a status finding.trace w w' g g'
+found_run named words b a finding status w w' g g' found writes = inl (finding, found, writes, refl, traced named words b a finding found)
+
+bare_by : (finding : Finding) (status : ℕ) (w w' : Option (List ℕ)) (g g' : ℕ) → (finding.trace ≡ []) ⊎ (code_of finding.answer.status ≡ 0)
     → Writes finding.answer status w w' g g' → (finding.trace ≡ []) ⊎ ((status ≡ 0) ⊎ ((status ≡ 5) ⊎ (status ≡ 6)))
-told_trace finding status w w' g g' (inl none) writes = inl none
-told_trace finding status w w' g g' (inr zero_code) (inl (same, appends)) = inr (inl (same ∙ zero_code))
-told_trace finding status w w' g g' (inr zero_code) (inr (inl (same, rose, front))) = inr (inr (inl same))
-told_trace finding status w w' g g' (inr zero_code) (inr (inr (same, front))) = inr (inr (inr same))
+bare_by finding status w w' g g' (inl none) writes = inl none
+bare_by finding status w w' g g' (inr zero_code) (inl (same, appends)) = inr (inl (same ∙ zero_code))
+bare_by finding status w w' g g' (inr zero_code) (inr (inl (same, rose, front))) = inr (inr (inl same))
+bare_by finding status w w' g g' (inr zero_code) (inr (inr (same, front))) = inr (inr (inr same))
 
-pub trace_run : (named : Option Named) (words : List (List ℕ)) (b a : Seen) (finding : Finding) (status : ℕ) (w w' : Option (List ℕ)) (g g' : ℕ)
-    → MayFind named (work_of words) b a finding → Writes finding.answer status w w' g g' → IsTrace (work_of words) named b a status finding.trace
-trace_run named words b a finding status w w' g g' found writes =
-    (inl (finding, found, refl, ends_as finding status w w' g g' writes), told_trace finding status w w' g g' (traced named words b a finding found) writes)
-
-pub asked_run : (named : Option Named) (w0 : Work) (b a : Seen) (finding : Finding) (status : ℕ) (w w' : Option (List ℕ)) (g g' : ℕ)
-    → MayFind named w0 b a finding → Writes finding.answer status w w' g g' → IsAsked w0 named b a status
-asked_run named w0 b a finding status w w' g g' found writes = inl (finding, found, ends_as finding status w w' g g' writes)
-
-pub prefix_run : (named : Option Named) (w0 : Work) (b a : Seen) (finding : Finding) (status : ℕ) (w w' : Option (List ℕ)) (g g' : ℕ)
-    → MayFind named w0 b a finding → Writes finding.answer status w w' g g' → WritesFront w0 named b a status w w' g g'
-prefix_run named w0 b a finding status w w' g g' found writes = inl (finding, found, writes)
+pub bare_run : (named : Option Named) (words : List (List ℕ)) (b a : Seen) (finding : Finding) (status : ℕ) (w w' : Option (List ℕ)) (g g' : ℕ)
+    → MayFind named (work_of words) b a finding → Writes finding.answer status w w' g g' → (finding.trace ≡ []) ⊎ ((status ≡ 0) ⊎ ((status ≡ 5) ⊎ (status ≡ 6)))
+bare_run named words b a finding status w w' g g' found writes = bare_by finding status w w' g g' (traced named words b a finding found) writes

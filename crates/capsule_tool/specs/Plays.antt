@@ -1,6 +1,6 @@
 -- The work of a play: the board is read and parsed, then the script, then the inputs that the script names, each once in order
 -- of first mention. The first failure decides.
-use Rattle.std.specs.Prelude.{ℕ, ◌+◌, nat_lt, ◌≡◌, false, ⊤, List, [], ◌∷◌, ◌++◌, length, map, Result, Ok, Err, if◌then◌else◌}
+use Rattle.std.specs.Prelude.{ℕ, ◌+◌, nat_lt, List, [], ◌∷◌, ◌++◌, length, map, Result, Ok, Err, if◌then◌else◌}
 use Rattle.std.specs.List.{list_all}
 use Rattle.bench_model.specs.Boards.{BoardValue}
 use Rattle.cu_base.specs.declared.limits.TheConstants.{MAX_CAPSULE_BYTES}
@@ -8,7 +8,7 @@ use Rattle.cu_io.specs.Named.{Named}
 use Rattle.recipe_files.specs.Boards.{board_text}
 use Rattle.recipe_files.specs.declared.faults.BadKind.{BadKind}
 use Rattle.reset_play.specs.Plays.{has_one_device, is_of_files, is_thin_on, thin_trace}
-use Rattle.reset_play.specs.ScriptInputs.{inputs_of, has_name}
+use Rattle.reset_play.specs.ScriptInputs.{inputs_of}
 use Rattle.reset_play.specs.ScriptText.{Said as ScriptSaid, script_said}
 use Rattle.reset_play.specs.Texts.{trace_text}
 use Rattle.reset_play.specs.Told.{Said}
@@ -31,11 +31,6 @@ played_as board events trace = record {
 -- the play of these events over the inputs that were read
 abbrev pub played : BoardValue → List Event → Named → Finding
 played board events loaded = played_as board events (thin_trace board loaded events)
-
--- no name stands twice
-abbrev pub AreDistinct : List (List ℕ) → Type 0
-AreDistinct [] = ⊤
-AreDistinct (name ∷ names) = (has_name name names ≡ false) × AreDistinct names
 
 -- what is done with an input by its bytes, where those before it are loaded and have this many bytes in sum: rest goes on
 abbrev pub input_next : BoardValue → Named → ℕ → List ℕ → (Named → ℕ → Work) → List ℕ → Work

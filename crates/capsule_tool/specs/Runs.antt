@@ -60,26 +60,10 @@ IsLong work named before after trace written written' =
     IsLongOne work named before after written written'
     ⊎ (Judges work named 7 trace written written' × RoseBy (MAX_NAMED_BYTES + 1) before.taken after.taken)
 
--- what was written begins what the run may find, by which it ends; or memory ran out before anything was found
-abbrev pub WritesFront : Work → Option Named → Seen → Seen → ℕ → Option (List ℕ) → Option (List ℕ) → ℕ → ℕ → Type 0
-WritesFront work named before after status written written' faults faults' =
-    ((finding : Finding) × MayFind named work before after finding × Writes finding.answer status written written' faults faults')
-    ⊎ ((status ≡ 6) × Keeps written written')
-
--- a run that found this ends with its status, or with that of a failed write or of want of memory
-abbrev pub EndsWith : Finding → ℕ → Type 0
-EndsWith finding status = (status ≡ code_of finding.answer.status) ⊎ ((status ≡ 5) ⊎ (status ≡ 6))
-
--- the trace is that of what the run may find, or empty where memory ran out; with 1 to 4, 7 and 8 it is empty
-abbrev pub IsTrace : Work → Option Named → Seen → Seen → ℕ → List Said → Type 0
-IsTrace work named before after status trace =
-    (((finding : Finding) × MayFind named work before after finding × (trace ≡ finding.trace) × EndsWith finding status)
-    ⊎ ((status ≡ 6) × (trace ≡ [])))
-    × ((trace ≡ []) ⊎ ((status ≡ 0) ⊎ ((status ≡ 5) ⊎ (status ≡ 6))))
-
--- the names that the words and the script give were asked for, in order, up to the input that decided; or up to where
--- memory ran out
-abbrev pub IsAsked : Work → Option Named → Seen → Seen → ℕ → Type 0
-IsAsked work named before after status =
-    ((finding : Finding) × MayFind named work before after finding × EndsWith finding status)
-    ⊎ ((status ≡ 6) × MayStop named work before after)
+-- one finding that the work may come to gave the text, the trace, the status and the names asked for, and only work that
+-- was done has a trace; or memory ran out before anything was found, and nothing was written
+abbrev pub EndsBy : Work → Option Named → Seen → Seen → ℕ → List Said → Option (List ℕ) → Option (List ℕ) → ℕ → ℕ → Type 0
+EndsBy work named before after status trace written written' faults faults' =
+    ((finding : Finding) × MayFind named work before after finding × Writes finding.answer status written written' faults faults'
+    × (trace ≡ finding.trace) × ((trace ≡ []) ⊎ (code_of finding.answer.status ≡ 0)))
+    ⊎ ((status ≡ 6) × (trace ≡ []) × Keeps written written' × MayStop named work before after)

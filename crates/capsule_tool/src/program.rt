@@ -1,9 +1,9 @@
-ghost use Rattle.std.specs.Prelude.{◌≡◌, ◌≤◌, map, IfOk, OnErr};
+ghost use Rattle.std.specs.Prelude.{◌≡◌, ◌≤◌, ◌⊎◌, [], map, IfOk, OnErr};
 ghost use Rattle.cu_base.specs.Causes.{Rose};
 ghost use Rattle.reset_play.specs.Told.{said_of};
 ghost use Rattle.capsule_tool.specs.Forms.{form_of};
 ghost use Rattle.capsule_tool.specs.Readings.{seen};
-ghost use Rattle.capsule_tool.specs.Runs.{AnswersAsTold, Judges, IsUsage, IsUnread, IsLong, IsTrace, Writes, WritesFront, IsAsked};
+ghost use Rattle.capsule_tool.specs.Runs.{AnswersAsTold, Judges, IsUsage, IsUnread, IsLong, Writes, EndsBy};
 ghost use Rattle.capsule_tool.specs.Told.{work_of};
 ghost use Rattle.capsule_tool.specs.Works.{MayFind, MayStop};
 
@@ -82,14 +82,11 @@ pub fn run<I: Inputs, O: Sink>(
     ensures later { result.status ≡ 8 → Judges (work_of words.now) (I.named inputs.old) 8 (map said_of result.trace.items) (O.written out.old) (O.written out.new) }
     ensures other { result.status ≤ 8 }
 
-    // What is written is a prefix of what may be found, or nothing where memory ran out first.
-    ensures prefix { WritesFront (work_of words.now) (I.named inputs.old) (seen (I.asked inputs.old) (I.faults inputs.old) (I.taken inputs.old)) (seen (I.asked inputs.new) (I.faults inputs.new) (I.taken inputs.new)) result.status (O.written out.old) (O.written out.new) (O.faults out.old) (O.faults out.new) }
+    // One finding gave status, trace, text and the names asked for; or memory ran out first. Only work that was done has a trace.
+    ensures found { EndsBy (work_of words.now) (I.named inputs.old) (seen (I.asked inputs.old) (I.faults inputs.old) (I.taken inputs.old)) (seen (I.asked inputs.new) (I.faults inputs.new) (I.taken inputs.new)) result.status (map said_of result.trace.items) (O.written out.old) (O.written out.new) (O.faults out.old) (O.faults out.new) }
+    ensures bare { (map said_of result.trace.items ≡ []) ⊎ ((result.status ≡ 0) ⊎ ((result.status ≡ 5) ⊎ (result.status ≡ 6))) }
 
-    // The trace is that of what was found, and empty where that is no play.
-    ensures trace { IsTrace (work_of words.now) (I.named inputs.old) (seen (I.asked inputs.old) (I.faults inputs.old) (I.taken inputs.old)) (seen (I.asked inputs.new) (I.faults inputs.new) (I.taken inputs.new)) result.status (map said_of result.trace.items) }
-
-    // Only names of the words and of the script are asked for, each once, in order. The inputs stay, and counts never fall.
-    ensures asked { IsAsked (work_of words.now) (I.named inputs.old) (seen (I.asked inputs.old) (I.faults inputs.old) (I.taken inputs.old)) (seen (I.asked inputs.new) (I.faults inputs.new) (I.taken inputs.new)) result.status }
+    // The inputs stay, and counts never fall.
     ensures named { I.named inputs.new ≡ I.named inputs.old }
     ensures counts { (I.faults inputs.old ≤ I.faults inputs.new) × (O.faults out.old ≤ O.faults out.new) }
 {

@@ -25,7 +25,8 @@ all_kept P keep (x ∷ xs) all =
       | false ↦ all_kept P keep xs all.1
     ]
 
-distinct_kept : {X : Type 0} (same : X → X → Bool) (keep : X → Bool) (xs : List X) → Distinct same xs → Distinct same (filter keep xs)
+-- and distinct items stay so
+pub distinct_kept : {X : Type 0} (same : X → X → Bool) (keep : X → Bool) (xs : List X) → Distinct same xs → Distinct same (filter keep xs)
 distinct_kept same keep [] d = tt
 distinct_kept same keep (x ∷ xs) d =
     elim (keep x) as (λ b. Distinct same (cond b (x ∷ filter keep xs) (filter keep xs))) [

@@ -1,13 +1,16 @@
 -- How the names of a script are gathered.
-use Rattle.std.proofs.Common.{◌≡◌, ℕ, suc, ◌+◌, ◌<◌, Bool, true, false, not, ◌&&◌, ◌||◌, cond, List, [], ◌∷◌, ◌++◌, get_or, drop, length, Option, Some, None, refl, sym, ap, ◌∙◌, append_assoc, add-one}
+use Rattle.std.proofs.Common.{◌≡◌, ℕ, suc, ◌+◌, ◌<◌, ◌≤◌, Bool, true, false, not, ◌&&◌, ◌||◌, cond, List, [], ◌∷◌, ◌++◌, get_or, drop, length, Option, Some, None, refl, sym, ap, ◌∙◌, subst, append_assoc, add-one}
 use Rattle.std.proofs.Math.Bool.{and-true}
 use Rattle.std.proofs.Math.Seq.{drop-cons}
+use Rattle.std.proofs.lemmas.List.{drop_all, append-nil}
 use Rattle.std.proofs.lemmas.List.Folds.{list_any-append}
 use Rattle.std.proofs.lemmas.Slice.Eq.{bytes_eq-Decides}
 use Rattle.std.specs.List.{filter, filter_map, cons_option}
 use Rattle.std.specs.Str.{bytes_eq}
 use Rattle.reset_play.specs.declared.event.Event.{Event}
+use Rattle.reset_play.specs.Laws.{Distinct}
 use Rattle.reset_play.specs.ScriptInputs.{mention, once, has_name, with_name, with_mention, inputs_of}
+use Rattle.reset_play.proofs.Apart.{all_imply, kept_pass, distinct_kept, no_longer}
 
 -- names beside other names, and what events name beside them
 abbrev pub beside : List (List ℕ) → List (List ℕ) → List (List ℕ)
@@ -75,3 +78,20 @@ beside_none (x ∷ xs) = ap (λ (l : List (List ℕ)). x ∷ l) (beside_none xs)
 -- before the first event
 pub named_none : (names : List (List ℕ)) (events : List Event) → names ≡ [] → names ++ unnamed names events ≡ inputs_of events
 named_none names events is_none = rw is_none (beside_none (inputs_of events))
+
+-- no name stands twice
+once_distinct : (names : List (List ℕ)) → Distinct bytes_eq (once names)
+once_distinct [] = tt
+once_distinct (n ∷ names) =
+    let others : List ℕ → Bool = λ other. not (bytes_eq n other) in (
+      all_imply (λ x. others x ≡ true) (λ x. bytes_eq n x ≡ false) (λ x h. no_longer (bytes_eq n x) h) (filter others (once names)) (kept_pass others (once names)),
+      distinct_kept bytes_eq others (once names) (once_distinct names),
+    )
+
+-- nor among the names behind the last event
+pub named_distinct : (names : List (List ℕ)) (items events : List Event) (i : ℕ) → length items ≤ i → names ++ unnamed names (drop i items) ≡ inputs_of events
+    → Distinct bytes_eq names
+named_distinct names items events i past named =
+    let is : names ≡ inputs_of events =
+    sym (append-nil names) ∙ (ap (λ (rest : List Event). names ++ unnamed names rest) (sym (drop_all i items past)) ∙ named) in
+    subst (Distinct bytes_eq) (sym is) (once_distinct (filter_map mention events))

@@ -1,10 +1,11 @@
 //! The inputs that the script names are read, one after the other.
-ghost use Rattle.std.specs.Prelude.{◌≡◌, ◌≤◌, ◌+◌, ◌++◌, ◌∷◌, [], ℕ, List, IsTrue, length, map, IfOk, OnErr};
+ghost use Rattle.std.specs.Prelude.{◌≡◌, ◌≤◌, ◌+◌, ◌++◌, ◌∷◌, [], ℕ, List, IsTrue, bytes_eq, length, map, IfOk, OnErr};
 ghost use Rattle.std.specs.List.{list_all};
 ghost use Rattle.cu_io.specs.Named.{Named, LacksName};
 ghost use Rattle.reset_play.specs.declared.event.Event.{Event};
+ghost use Rattle.reset_play.specs.Laws.{Distinct};
 ghost use Rattle.reset_play.specs.Plays.{is_thin_on};
-ghost use Rattle.capsule_tool.specs.Plays.{AreDistinct, input_next, input_work, inputs_work, played};
+ghost use Rattle.capsule_tool.specs.Plays.{input_next, input_work, inputs_work, played};
 ghost use Rattle.capsule_tool.specs.Readings.{seen};
 ghost use Rattle.capsule_tool.specs.Steps.{StepsTo, IsStep, OnGoes};
 ghost use Rattle.capsule_tool.specs.Works.{Work, MayStop};
@@ -26,7 +27,7 @@ pub fn take_inputs<I: Inputs>(
     names: &[Text],
     inputs: &mut I,
 ) -> Result<Step<Loaded>, NoMemory>
-    requires { AreDistinct names.now }
+    requires { Distinct bytes_eq names.now }
     ensures found { (events : List Event) → IfOk result (StepsTo (I.named inputs.old) (inputs_work board.now events [] 0 names.now) (seen (I.asked inputs.old) (I.faults inputs.old) (I.taken inputs.old)) (seen (I.asked inputs.new) (I.faults inputs.new) (I.taken inputs.new)) (λ loaded. Finds (played board.now events loaded.items))) }
     ensures names { IfOk result (OnGoes (λ loaded. map (λ pair. pair.0) loaded.items ≡ names.now)) }
     ensures thin { IfOk result (OnGoes (λ loaded. IsTrue (list_all (λ pair. is_thin_on board.now pair.1) loaded.items))) }

@@ -1,6 +1,7 @@
 //! The inputs that a script names.
 
-ghost use Rattle.std.specs.Prelude.{◌≡◌, OnOk, OnErr, IfOk, option_copied};
+ghost use Rattle.std.specs.Prelude.{◌≡◌, OnOk, OnErr, IfOk, bytes_eq, option_copied};
+ghost use Rattle.reset_play.specs.Laws.{Distinct};
 ghost use Rattle.reset_play.specs.ScriptInputs.{mention, inputs_of, has_name, with_name, with_mention};
 
 use crate::{Event, Script};
@@ -61,6 +62,7 @@ fn take_event(alloc: Global, names: &mut Names, event: &Event) -> Result<(), NoM
 /// The inputs that a script names, each once, in order of first mention.
 pub fn script_inputs(alloc: Global, script: &Script) -> Result<Names, NoMemory>
     ensures value { IfOk result (λ names. names.items ≡ inputs_of script.now.items) }
+    ensures distinct { IfOk result (λ names. Distinct bytes_eq names.items) }
 {
     let mut names = Names::new(alloc);
     for event in script.as_slice() {

@@ -7,7 +7,7 @@ use Rattle.capsule_tool.specs.Readings.{seen}
 use Rattle.capsule_tool.specs.Works.{Work}
 use Rattle.capsule_tool.specs.Works.Work.{Finds}
 use Rattle.capsule_tool.proofs.ComingLaws.{names_come, names_find, names_stop}
-use Rattle.capsule_tool.proofs.NameLaws.{plays, distinct_inputs}
+use Rattle.capsule_tool.proofs.NameLaws.{plays}
 use Rattle.capsule_tool.proofs.WorkLaws.{stop_here, stop_start, goes_to, goes_holds, ends_with, finds_as, lift, on_err}
 use Rattle.capsule_tool.proofs.play.on_inputs.Goals as goal
 
@@ -15,7 +15,7 @@ pub returns-in_default-clause-memory : goal.returns-in_default-clause-memory
 returns-in_default-clause-memory g c = stop_start _ _ (seen (g.I.Inputs.asked c.args.inputs.now) (g.I.Inputs.faults c.args.inputs.now) (g.I.Inputs.taken c.args.inputs.now))
 
 pub take_inputs-requires : goal.take_inputs-requires
-take_inputs-requires g c = distinct_inputs c.args.script.now.items c.as_slice.result.now (c.as_slice.ensures ∙ c.in-Ok.ensures.value)
+take_inputs-requires g c = rw c.as_slice.ensures c.in-Ok.ensures.distinct
 
 pub played-requires-clause-events : goal.played-requires-clause-events
 played-requires-clause-events g c =

@@ -1,5 +1,5 @@
 use Rattle.std.proofs.Common.{arith}
-use Rattle.capsule_tool.proofs.RunLaws.{as_told, judged_run, usage_run, unread_run, unwritten_run, long_run, small_run, prefix_run, trace_run, asked_run}
+use Rattle.capsule_tool.proofs.RunLaws.{as_told, judged_run, usage_run, unread_run, unwritten_run, long_run, small_run, found_run, bare_run}
 use Rattle.capsule_tool.proofs.program.run.Goals as goal
 
 pub returns-in-Ok-clause-exact : goal.returns-in-Ok-clause-exact
@@ -32,11 +32,8 @@ returns-in-Ok-clause-later g c = rw c.say.ensures.trace (λ is. judged_run _ _ _
 pub returns-in-Ok-clause-other : goal.returns-in-Ok-clause-other
 returns-in-Ok-clause-other g c = small_run c.in-Ok.found _ _ _ _ _ c.say.ensures.written
 
-pub returns-in-Ok-clause-prefix : goal.returns-in-Ok-clause-prefix
-returns-in-Ok-clause-prefix g c = prefix_run _ _ _ _ _ _ _ _ _ _ c.in-Ok.ensures.found c.say.ensures.written
+pub returns-in-Ok-clause-found : goal.returns-in-Ok-clause-found
+returns-in-Ok-clause-found g c = rw c.say.ensures.trace (found_run _ c.args.words.now _ _ _ _ _ _ _ _ c.in-Ok.ensures.found c.say.ensures.written)
 
-pub returns-in-Ok-clause-trace : goal.returns-in-Ok-clause-trace
-returns-in-Ok-clause-trace g c = rw c.say.ensures.trace (trace_run _ c.args.words.now _ _ _ _ _ _ _ _ c.in-Ok.ensures.found c.say.ensures.written)
-
-pub returns-in-Ok-clause-asked : goal.returns-in-Ok-clause-asked
-returns-in-Ok-clause-asked g c = asked_run _ _ _ _ _ _ _ _ _ _ c.in-Ok.ensures.found c.say.ensures.written
+pub returns-in-Ok-clause-bare : goal.returns-in-Ok-clause-bare
+returns-in-Ok-clause-bare g c = rw c.say.ensures.trace (bare_run _ c.args.words.now _ _ _ _ _ _ _ _ c.in-Ok.ensures.found c.say.ensures.written)

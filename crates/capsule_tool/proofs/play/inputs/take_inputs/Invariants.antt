@@ -1,8 +1,8 @@
 use Rattle.std.proofs.Common.{◌≡◌, ◌≤◌, map, take}
-use Rattle.std.specs.Prelude.{IsTrue}
+use Rattle.std.specs.Prelude.{IsTrue, bytes_eq}
 use Rattle.std.specs.List.{list_all}
+use Rattle.reset_play.specs.Laws.{Distinct}
 use Rattle.reset_play.specs.Plays.{is_thin_on}
-use Rattle.capsule_tool.specs.Plays.{AreDistinct}
 use Rattle.capsule_tool.specs.Readings.{seen}
 use Rattle.capsule_tool.specs.declared.limits.TheConstants.{MAX_NAMED_BYTES}
 use Rattle.capsule_tool.proofs.ComingLaws.{HasCome}
@@ -16,7 +16,7 @@ invariant-loop-name g l = record {
   loaded : map (λ pair. pair.0) l.loaded.items ≡ take l.name-index l.fn.names;
   thin : IsTrue (list_all (λ pair. is_thin_on l.fn.board pair.1) l.loaded.items);
   small : l.sum ≤ MAX_NAMED_BYTES;
-  distinct : AreDistinct l.fn.names;
+  distinct : Distinct bytes_eq l.fn.names;
   named : g.I.Inputs.named l.inputs ≡ g.I.Inputs.named l.fn.inputs;
   later : g.I.Inputs.faults l.fn.inputs ≤ g.I.Inputs.faults l.inputs;
 }
