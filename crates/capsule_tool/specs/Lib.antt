@@ -9,5 +9,6 @@ pub mod Readings
 pub mod Runs
 pub mod Statuses
 pub mod Steps
+pub mod ThinCapsules
 pub mod Told
 pub mod Works
