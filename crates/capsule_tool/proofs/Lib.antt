@@ -5,5 +5,7 @@ pub mod NameLaws
 pub mod PlayLaws
 pub mod RunLaws
 pub mod ScanLaws
+pub mod ThinLaws
+pub mod ThinPlaces
 pub mod VerdictLaws
 pub mod WorkLaws

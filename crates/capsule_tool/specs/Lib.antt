@@ -11,5 +11,6 @@ pub mod ScanStops
 pub mod Scans
 pub mod Statuses
 pub mod Steps
+pub mod ThinCapsules
 pub mod Told
 pub mod Works

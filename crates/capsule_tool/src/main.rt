@@ -12,6 +12,7 @@ mod form;
 mod found;
 mod input;
 mod kinds;
+mod laws;
 mod limits;
 mod play;
 mod program;
@@ -23,6 +24,7 @@ mod tests;
 
 use cu_base::{Names, NoMemory, Text};
 use cu_io::{FileInputs, StdSink};
+pub use laws::thin_deliveries_are_capsules;
 pub use program::{Outcome, run};
 use status::Status;
 use std::alloc::Global;

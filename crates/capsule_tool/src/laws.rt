@@ -1,0 +1,19 @@
+//! The law that ties the thin deliveries of plays to the grammar of capsule files: both speak of the same bytes,
+//! and the reference machine sees of a thin delivery what the grammar reads in it.
+
+ghost use Rattle.std.specs.Prelude.{◌≡◌, ◌≤◌, ℕ, true, List, [], ◌∷◌, length, Some};
+ghost use Rattle.cu_base.specs.declared.limits.TheConstants.{MAX_CAPSULE_BYTES};
+ghost use Rattle.fmp_headers.specs.Bytes.{IsBytes};
+ghost use Rattle.capsule_grammar.specs.declared.value.Capsule.{Capsule};
+ghost use Rattle.capsule_grammar.specs.Spelling.{spelling};
+ghost use Rattle.capsule_grammar.specs.Fits.{IsCapsule};
+ghost use Rattle.reset_play.specs.Thin.{is_thin, thin_capsules};
+ghost use Rattle.capsule_tool.specs.ThinCapsules.{IsThinCapsule, machine_capsule};
+
+/// The thin deliveries are the spellings of the thin capsules, as far as a capsule's limit reaches, and the capsule
+/// that the reference machine sees in one is the one that it spells.
+pub fn thin_deliveries_are_capsules()
+    ensures read { (bytes : List ℕ) → IsBytes bytes → length bytes ≤ MAX_CAPSULE_BYTES → is_thin bytes ≡ true → (c : Capsule) × IsCapsule c × IsThinCapsule c × (spelling c ≡ bytes) }
+    ensures spelled { (c : Capsule) → IsCapsule c → IsThinCapsule c → is_thin (spelling c) ≡ true }
+    ensures item { (c : Capsule) → IsCapsule c → IsThinCapsule c → thin_capsules (spelling c) ≡ Some (machine_capsule c ∷ []) }
+{}
