@@ -1,6 +1,7 @@
 pub mod ComingLaws
 pub mod FileLaws
 pub mod ImageLaws
+pub mod JudgeLaws
 pub mod NameLaws
 pub mod PlayLaws
 pub mod RunLaws

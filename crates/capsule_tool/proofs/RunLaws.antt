@@ -15,7 +15,7 @@ use Rattle.reset_play.specs.ScriptText.{Said as ScriptSaid, script_said}
 use Rattle.reset_play.specs.declared.event.Event.{Event}
 use Rattle.capsule_tool.specs.Answers.{usage, later, unread, long}
 use Rattle.capsule_tool.specs.Check.{verdict_of}
-use Rattle.capsule_tool.specs.Files.{verdict_answer, file_work}
+use Rattle.capsule_tool.specs.Files.{verdict_answer, rebuilt_by}
 use Rattle.capsule_tool.specs.Findings.{Finding, bare}
 use Rattle.capsule_tool.specs.Forms.{form_of}
 use Rattle.capsule_tool.specs.Plays.{board_next, script_work, script_next, inputs_work}
@@ -30,8 +30,6 @@ use Rattle.capsule_tool.specs.declared.check.Verdict.{Verdict}
 use Rattle.capsule_tool.specs.declared.check.Verdict.TheVariants.{Whole as WholeCapsule, Refused, Trailing}
 use Rattle.capsule_tool.specs.declared.form.Form.{Form}
 use Rattle.capsule_tool.specs.declared.form.Form.TheVariants.{Check, Show, Rebuild, Make, Play, Load}
-use Rattle.capsule_tool.specs.declared.form.FileWork.{FileWork}
-use Rattle.capsule_tool.specs.declared.form.FileWork.TheVariants.{Check as CheckFile, Rebuild as RebuildFile}
 use Rattle.capsule_tool.specs.declared.input.Reading.TheVariants.{Whole, Unread, Long}
 use Rattle.capsule_tool.specs.declared.limits.TheConstants.{MAX_NAMED_BYTES}
 use Rattle.capsule_tool.specs.declared.status.Status.{Status}
@@ -106,14 +104,15 @@ record IsEnd (finding : Finding) : Type 0 where
 bare_end : (answer : Answer) → code_of answer.status ≢ 2 → code_of answer.status ≢ 4 → code_of answer.status ≢ 5 → code_of answer.status ≢ 6 → IsEnd (bare answer)
 bare_end answer a b c d = record { not2 = a; not4 = b; not5 = c; not6 = d; traced = inl refl }
 
-verdict_end : (work : FileWork) (bytes : List ℕ) (verdict : Verdict) → IsEnd (bare (verdict_answer work bytes verdict))
-verdict_end CheckFile bytes (WholeCapsule n) = bare_end _ (omega arith) (omega arith) (omega arith) (omega arith)
-verdict_end RebuildFile bytes (WholeCapsule n) = bare_end _ (omega arith) (omega arith) (omega arith) (omega arith)
-verdict_end work bytes (Refused refusal) = bare_end _ (omega arith) (omega arith) (omega arith) (omega arith)
-verdict_end work bytes (Trailing at) = bare_end _ (omega arith) (omega arith) (omega arith) (omega arith)
+verdict_end : (verdict : Verdict) → IsEnd (bare (verdict_answer verdict))
+verdict_end (WholeCapsule n) = bare_end _ (omega arith) (omega arith) (omega arith) (omega arith)
+verdict_end (Refused refusal) = bare_end _ (omega arith) (omega arith) (omega arith) (omega arith)
+verdict_end (Trailing at) = bare_end _ (omega arith) (omega arith) (omega arith) (omega arith)
 
-file_ends : (work : FileWork) (name : List ℕ) → Ends IsEnd (file_work work name)
-file_ends work name = λ bytes. verdict_end work bytes (verdict_of bytes)
+rebuilt_end : (verdict : Verdict) (bytes : List ℕ) → IsEnd (bare (rebuilt_by verdict bytes))
+rebuilt_end (WholeCapsule n) bytes = bare_end _ (omega arith) (omega arith) (omega arith) (omega arith)
+rebuilt_end (Refused refusal) bytes = verdict_end (Refused refusal)
+rebuilt_end (Trailing at) bytes = verdict_end (Trailing at)
 
 input_ends : (board : BoardValue) (loaded : Named) (sum : ℕ) (name : List ℕ) (rest : Named → ℕ → Work) (bytes : List ℕ) (past thin : Bool)
     → Ends IsEnd (rest (loaded ++ (name, bytes) ∷ []) (sum + length bytes))
@@ -146,9 +145,9 @@ board_end name script (Err fault) = bare_end _ (omega arith) (omega arith) (omeg
 board_end name script (Ok board) = one_end board name script (has_one_device board)
 
 form_ends : (form : Form) (words : List (List ℕ)) → Ends IsEnd (work_by (Some form) words)
-form_ends Check words = file_ends CheckFile (word words 1)
+form_ends Check words = λ bytes. verdict_end (verdict_of bytes)
 form_ends Show words = bare_end _ (omega arith) (omega arith) (omega arith) (omega arith)
-form_ends Rebuild words = file_ends RebuildFile (word words 1)
+form_ends Rebuild words = λ bytes. rebuilt_end (verdict_of bytes) bytes
 form_ends Make words = bare_end _ (omega arith) (omega arith) (omega arith) (omega arith)
 form_ends Play words = λ bytes. board_end (word words 1) (word words 2) (board_text bytes)
 form_ends Load words = bare_end _ (omega arith) (omega arith) (omega arith) (omega arith)
@@ -167,11 +166,15 @@ sum_of n named (bytes ∷ rest) (Finds it) finding comes sums is = absurd comes
 sum_of n named (bytes ∷ rest) (Reads limit name next) finding (holds, short, comes) sums is =
     omega (arith, sum_of (n + length bytes) named rest (next bytes) finding comes (sums bytes) is, sum_by-cons length bytes rest)
 
-verdict_sum : (n : ℕ) (work : FileWork) (bytes : List ℕ) (verdict : Verdict) → Sums n (Finds (bare (verdict_answer work bytes verdict)))
-verdict_sum n CheckFile bytes (WholeCapsule m) = λ is. absurd (omega (arith, is))
-verdict_sum n RebuildFile bytes (WholeCapsule m) = λ is. absurd (omega (arith, is))
-verdict_sum n work bytes (Refused refusal) = λ is. absurd (omega (arith, is))
-verdict_sum n work bytes (Trailing at) = λ is. absurd (omega (arith, is))
+verdict_sum : (n : ℕ) (verdict : Verdict) → Sums n (Finds (bare (verdict_answer verdict)))
+verdict_sum n (WholeCapsule m) = λ is. absurd (omega (arith, is))
+verdict_sum n (Refused refusal) = λ is. absurd (omega (arith, is))
+verdict_sum n (Trailing at) = λ is. absurd (omega (arith, is))
+
+rebuilt_sum : (n : ℕ) (verdict : Verdict) (bytes : List ℕ) → Sums n (Finds (bare (rebuilt_by verdict bytes)))
+rebuilt_sum n (WholeCapsule m) bytes = λ is. absurd (omega (arith, is))
+rebuilt_sum n (Refused refusal) bytes = verdict_sum n (Refused refusal)
+rebuilt_sum n (Trailing at) bytes = verdict_sum n (Trailing at)
 
 input_sums : (n : ℕ) (board : BoardValue) (loaded : Named) (sum : ℕ) (name : List ℕ) (rest : Named → ℕ → Work) (bytes : List ℕ) (past thin : Bool)
     → sum ≤ n → nat_lt MAX_NAMED_BYTES (sum + length bytes) ≡ past → Sums (n + length bytes) (rest (loaded ++ (name, bytes) ∷ []) (sum + length bytes))
@@ -205,9 +208,9 @@ board_sum n name script (Ok board) = one_sum n board name script (has_one_device
 
 form_sums : (form : Option Form) (words : List (List ℕ)) → Sums 0 (work_by form words)
 form_sums None words = λ is. absurd (omega (arith, is))
-form_sums (Some Check) words = λ bytes. verdict_sum (0 + length bytes) CheckFile bytes (verdict_of bytes)
+form_sums (Some Check) words = λ bytes. verdict_sum (0 + length bytes) (verdict_of bytes)
 form_sums (Some Show) words = λ is. absurd (omega (arith, is))
-form_sums (Some Rebuild) words = λ bytes. verdict_sum (0 + length bytes) RebuildFile bytes (verdict_of bytes)
+form_sums (Some Rebuild) words = λ bytes. rebuilt_sum (0 + length bytes) (verdict_of bytes) bytes
 form_sums (Some Make) words = λ is. absurd (omega (arith, is))
 form_sums (Some Play) words = λ bytes. board_sum (0 + length bytes) (word words 1) (word words 2) (board_text bytes)
 form_sums (Some Load) words = λ is. absurd (omega (arith, is))

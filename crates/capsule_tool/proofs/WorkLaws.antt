@@ -4,13 +4,16 @@ use Rattle.std.specs.Prelude.{sum_by, Result, Ok, Err, IfOk, OnErr}
 use Rattle.std.proofs.lemmas.List.{append_assoc, append-nil}
 use Rattle.std.proofs.lemmas.List.Sums.{sum_by-append}
 use Rattle.cu_base.specs.Causes.{RoseBy}
+use Rattle.cu_base.specs.declared.limits.TheConstants.{MAX_CAPSULE_BYTES}
 use Rattle.cu_io.specs.Named.{Named}
+use Rattle.capsule_tool.specs.Check.{verdict_of}
 use Rattle.capsule_tool.specs.Findings.{Finding, bare}
-use Rattle.capsule_tool.specs.Readings.{Seen, WasRead}
+use Rattle.capsule_tool.specs.Readings.{Seen, WasRead, WasJudged}
 use Rattle.capsule_tool.specs.Steps.{StepsTo, IsStep, StepsBy, OnGoes}
 use Rattle.capsule_tool.specs.Works.{Work, Comes, names_by, Took, ComesTo, EndsAt, MayFind, MayStop}
 use Rattle.capsule_tool.specs.Works.Work.{Finds, Reads}
 use Rattle.capsule_tool.specs.declared.answer.Answer.{Answer}
+use Rattle.capsule_tool.specs.declared.check.Verdict.{Verdict}
 use Rattle.capsule_tool.specs.declared.input.Reading.{Reading}
 use Rattle.capsule_tool.specs.declared.input.Reading.TheVariants.{Whole, Unread, Long}
 use Rattle.capsule_tool.specs.declared.step.Step.{Step}
@@ -83,12 +86,12 @@ pub stop_asking : (named : Option Named) (limit : ℕ) (name : List ℕ) (next :
     → (a.asked ≡ b.asked) ⊎ (a.asked ≡ b.asked ++ name ∷ []) → MayStop named (Reads limit name next) b a
 stop_asking named limit name next b a stops = (Reads limit name next, b, stays named (Reads limit name next) b, stops)
 
-pub stop_read : (named : Option Named) (limit : ℕ) (name : List ℕ) (next : List ℕ → Work) (b a : Seen) (reading : Reading)
+pub stop_read : (named : Option Named) (limit : ℕ) (name : List ℕ) (next : List ℕ → Work) (b a : Seen) (reading : Reading (List ℕ))
     → WasRead named limit name b a reading → MayStop named (Reads limit name next) b a
 stop_read named limit name next b a reading read = stop_asking named limit name next b a (inr read.asked)
 
 -- steps
-pub step_by : (named : Option Named) (limit : ℕ) (name : List ℕ) (next : List ℕ → Work) (b a : Seen) (reading : Reading) (step : Step (List ℕ))
+pub step_by : (named : Option Named) (limit : ℕ) (name : List ℕ) (next : List ℕ → Work) (b a : Seen) (reading : Reading (List ℕ)) (step : Step (List ℕ))
     → WasRead named limit name b a reading → StepsBy name reading step → StepsTo named (Reads limit name next) b a next step
 step_by named limit name next b a (Whole bytes) (Goes value) read is = rw is (one_read named limit name next b a bytes read)
 step_by named limit name next b a (Whole bytes) (Ends answer) read is = absurd is
@@ -97,7 +100,27 @@ step_by named limit name next b a Unread (Ends answer) read is = ended _ _ _ _ _
 step_by named limit name next b a Long (Goes value) read is = absurd is
 step_by named limit name next b a Long (Ends answer) read is = ended _ _ _ _ _ (Long, read, ap bare is)
 
-pub step_short : (named : Option Named) (limit : ℕ) (name : List ℕ) (b a : Seen) (reading : Reading) (step : Step (List ℕ))
+pub verdict_step : (named : Option Named) (name : List ℕ) (next : Verdict → Work) (b a : Seen) (judged : Reading Verdict) (step : Step Verdict)
+    → WasJudged named name b a judged → StepsBy name judged step → StepsTo named (Reads MAX_CAPSULE_BYTES name (λ bytes. next (verdict_of bytes))) b a next step
+verdict_step named name next b a (Whole verdict) (Goes value) (Whole bytes, read, of) is =
+    rw (is ∙ of) (one_read named MAX_CAPSULE_BYTES name (λ bytes. next (verdict_of bytes)) b a bytes read)
+verdict_step named name next b a (Whole verdict) (Goes value) (Unread, read, of) is = absurd of
+verdict_step named name next b a (Whole verdict) (Goes value) (Long, read, of) is = absurd of
+verdict_step named name next b a (Whole verdict) (Ends answer) was is = absurd is
+verdict_step named name next b a Unread (Goes value) was is = absurd is
+verdict_step named name next b a Unread (Ends answer) (Whole bytes, read, of) is = absurd of
+verdict_step named name next b a Unread (Ends answer) (Unread, read, of) is = ended _ _ _ _ _ (Unread, read, ap bare is)
+verdict_step named name next b a Unread (Ends answer) (Long, read, of) is = absurd of
+verdict_step named name next b a Long (Goes value) was is = absurd is
+verdict_step named name next b a Long (Ends answer) (Whole bytes, read, of) is = absurd of
+verdict_step named name next b a Long (Ends answer) (Unread, read, of) is = absurd of
+verdict_step named name next b a Long (Ends answer) (Long, read, of) is = ended _ _ _ _ _ (Long, read, ap bare is)
+
+pub stop_judged : (named : Option Named) (name : List ℕ) (next : List ℕ → Work) (b a : Seen) (judged : Reading Verdict)
+    → WasJudged named name b a judged → MayStop named (Reads MAX_CAPSULE_BYTES name next) b a
+stop_judged named name next b a judged (reading, read, of) = stop_read named MAX_CAPSULE_BYTES name next b a reading read
+
+pub step_short : (named : Option Named) (limit : ℕ) (name : List ℕ) (b a : Seen) (reading : Reading (List ℕ)) (step : Step (List ℕ))
     → WasRead named limit name b a reading → StepsBy name reading step → OnGoes (λ bytes. length bytes ≤ limit) step
 step_short named limit name b a (Whole bytes) (Goes value) read is = rw is (read.gives.1)
 step_short named limit name b a (Whole bytes) (Ends answer) read is = tt

@@ -12,29 +12,32 @@ use Rattle.capsule_tool.specs.Works.Work.{Finds, Reads}
 use Rattle.capsule_tool.specs.declared.answer.Answer.{Answer}
 use Rattle.capsule_tool.specs.declared.check.Verdict.{Verdict}
 use Rattle.capsule_tool.specs.declared.check.Verdict.TheVariants.{Whole as WholeCapsule, Refused, Trailing}
-use Rattle.capsule_tool.specs.declared.form.FileWork.{FileWork}
-use Rattle.capsule_tool.specs.declared.form.FileWork.TheVariants.{Check, Rebuild}
 use Rattle.capsule_tool.specs.declared.status.Status.TheVariants.{Done}
 
 -- the capsule that is the whole file, without its lead and its pads
 abbrev pub rebuilt : List ℕ → Answer
 rebuilt bytes = record { status = Done; text = spelling (emptied (capsule_of bytes)) }
 
--- what is done with a file that is one whole capsule
-abbrev pub whole_answer : FileWork → List ℕ → ℕ → Answer
-whole_answer Check bytes length = done length
-whole_answer Rebuild bytes length = rebuilt bytes
+-- what is told of a file, by the verdict on it
+abbrev pub verdict_answer : Verdict → Answer
+verdict_answer (WholeCapsule length) = done length
+verdict_answer (Refused refusal) = refused refusal.at (name_of refusal.why)
+verdict_answer (Trailing at) = refused at (codes "Trailing")
 
--- what is found of the bytes of a file, by the verdict on them
-abbrev pub verdict_answer : FileWork → List ℕ → Verdict → Answer
-verdict_answer work bytes (WholeCapsule length) = whole_answer work bytes length
-verdict_answer work bytes (Refused refusal) = refused refusal.at (name_of refusal.why)
-verdict_answer work bytes (Trailing at) = refused at (codes "Trailing")
+-- the file rebuilt, where it is one whole capsule; else what is told of it
+abbrev pub rebuilt_by : Verdict → List ℕ → Answer
+rebuilt_by (WholeCapsule length) bytes = rebuilt bytes
+rebuilt_by (Refused refusal) bytes = verdict_answer (Refused refusal)
+rebuilt_by (Trailing at) bytes = verdict_answer (Trailing at)
 
--- what is found of the bytes of a file
-abbrev pub bytes_answer : FileWork → List ℕ → Answer
-bytes_answer work bytes = verdict_answer work bytes (verdict_of bytes)
+-- what rebuilding finds of the bytes of a file
+abbrev pub rebuild_answer : List ℕ → Answer
+rebuild_answer bytes = rebuilt_by (verdict_of bytes) bytes
 
--- the file is read, and its bytes are judged
-abbrev pub file_work : FileWork → List ℕ → Work
-file_work work name = Reads MAX_CAPSULE_BYTES name (λ bytes. Finds (bare (bytes_answer work bytes)))
+-- the file is read, and the verdict on its bytes is told
+abbrev pub check_work : List ℕ → Work
+check_work name = Reads MAX_CAPSULE_BYTES name (λ bytes. Finds (bare (verdict_answer (verdict_of bytes))))
+
+-- the file is read, and rebuilt
+abbrev pub rebuild_work : List ℕ → Work
+rebuild_work name = Reads MAX_CAPSULE_BYTES name (λ bytes. Finds (bare (rebuild_answer bytes)))

@@ -22,9 +22,9 @@ IsStep work next (Goes value) = work ≡ next value
 IsStep work next (Ends answer) = work ≡ Finds (bare answer)
 
 -- the step that a reading of the input of this name makes
-abbrev pub StepsBy : List ℕ → Reading → Step (List ℕ) → Type 0
-StepsBy name (Whole bytes) (Goes value) = value ≡ bytes
-StepsBy name (Whole bytes) (Ends answer) = ⊥
+abbrev pub StepsBy : {T : Type 0} → List ℕ → Reading T → Step T → Type 0
+StepsBy name (Whole read) (Goes value) = value ≡ read
+StepsBy name (Whole read) (Ends answer) = ⊥
 StepsBy name Unread (Goes value) = ⊥
 StepsBy name Unread (Ends answer) = answer ≡ unread name
 StepsBy name Long (Goes value) = ⊥

@@ -2,7 +2,7 @@
 use Rattle.std.specs.Prelude.{ℕ, List, [], slice_index_or, Option, None, Some}
 use Rattle.cu_io.specs.Named.{Named}
 use Rattle.capsule_tool.specs.Answers.{usage, later}
-use Rattle.capsule_tool.specs.Files.{file_work}
+use Rattle.capsule_tool.specs.Files.{check_work, rebuild_work}
 use Rattle.capsule_tool.specs.Findings.{Finding, bare}
 use Rattle.capsule_tool.specs.Forms.{form_of}
 use Rattle.capsule_tool.specs.Plays.{play_work}
@@ -10,7 +10,6 @@ use Rattle.capsule_tool.specs.Works.{Work, told_by}
 use Rattle.capsule_tool.specs.Works.Work.{Finds}
 use Rattle.capsule_tool.specs.declared.form.Form.{Form}
 use Rattle.capsule_tool.specs.declared.form.Form.TheVariants.{Check, Show, Rebuild, Make, Play, Load}
-use Rattle.capsule_tool.specs.declared.form.FileWork.TheVariants.{Check as CheckFile, Rebuild as RebuildFile}
 
 -- a word by its place
 abbrev pub word : List (List ℕ) → ℕ → List ℕ
@@ -19,9 +18,9 @@ word words k = slice_index_or words k []
 -- the work of the words, by their form
 abbrev pub work_by : Option Form → List (List ℕ) → Work
 work_by None words = Finds (bare usage)
-work_by (Some Check) words = file_work CheckFile (word words 1)
+work_by (Some Check) words = check_work (word words 1)
 work_by (Some Show) words = Finds (bare (later (word words 0)))
-work_by (Some Rebuild) words = file_work RebuildFile (word words 1)
+work_by (Some Rebuild) words = rebuild_work (word words 1)
 work_by (Some Make) words = Finds (bare (later (word words 0)))
 work_by (Some Play) words = play_work (word words 1) (word words 2)
 work_by (Some Load) words = Finds (bare (later (word words 0)))

@@ -15,7 +15,7 @@ pub data Work : Type 0 where
   Reads : (limit : ℕ) → (name : List ℕ) → (next : List ℕ → Work) → Work
 
 -- what comes of a reading: the first one that does not give all bytes decides
-abbrev pub by_reading : List ℕ → (List ℕ → Finding) → Reading → Finding
+abbrev pub by_reading : List ℕ → (List ℕ → Finding) → Reading (List ℕ) → Finding
 by_reading name next (Whole bytes) = next bytes
 by_reading name next Unread = bare (unread name)
 by_reading name next Long = bare (long name)
@@ -55,7 +55,7 @@ ComesTo named work before work' after =
     (readings : List (List ℕ)) × Comes named readings work work' × Took (names_by readings work) readings before after
 
 -- a reading that does not give all bytes decides
-abbrev pub Decides : List ℕ → Reading → Finding → Type 0
+abbrev pub Decides : List ℕ → Reading (List ℕ) → Finding → Type 0
 Decides name (Whole bytes) finding = ⊥
 Decides name Unread finding = finding ≡ bare (unread name)
 Decides name Long finding = finding ≡ bare (long name)
@@ -64,7 +64,7 @@ Decides name Long finding = finding ≡ bare (long name)
 abbrev pub EndsAt : Option Named → Work → Seen → Seen → Finding → Type 0
 EndsAt named (Finds it) before after finding = ⊥
 EndsAt named (Reads limit name next) before after finding =
-    (reading : Reading) × WasRead named limit name before after reading × Decides name reading finding
+    (reading : Reading (List ℕ)) × WasRead named limit name before after reading × Decides name reading finding
 
 -- what a work may find, whatever happens outside: what it comes to, or what the reading of an input decides
 abbrev pub MayFind : Option Named → Work → Seen → Seen → Finding → Type 0

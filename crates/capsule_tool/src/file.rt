@@ -2,36 +2,34 @@
 ghost use Rattle.std.specs.Prelude.{◌≡◌, ◌≤◌, length, None, IfOk, OnErr};
 ghost use Rattle.capsule_grammar.specs.Refusals.{refusal};
 ghost use Rattle.fmp_headers.specs.CapsuleHeader.{image_size};
-ghost use Rattle.capsule_tool.specs.Files.{file_work, bytes_answer, whole_answer, rebuilt};
+ghost use Rattle.capsule_tool.specs.Files.{check_work, rebuild_work, verdict_answer, rebuild_answer, rebuilt};
 ghost use Rattle.capsule_tool.specs.Readings.{seen};
 ghost use Rattle.capsule_tool.specs.Works.{MayFind, MayStop};
 
 use crate::answer::Answer;
 use crate::check::{Verdict, judge, printed};
-use crate::form::FileWork;
 use crate::found::Found;
 use crate::status::Status;
-use crate::step::{Step, take_bytes};
+use crate::step::{Step, take_bytes, take_verdict};
 use capsule_grammar::{DecodeFault, is_rebuilt};
 use cu_base::{Blob, MAX_CAPSULE_BYTES, NoMemory, Text};
 use cu_io::Inputs;
 use std::alloc::Global;
 
-/// Reads the file of this name and does its work.
-pub fn on_file<I: Inputs>(
+/// Checks the file of this name as it is read; its bytes are not kept.
+pub fn check_file<I: Inputs>(
     alloc: Global,
-    work: FileWork,
     name: &Text,
     inputs: &mut I,
 ) -> Result<Found, NoMemory>
-    ensures found { IfOk result (MayFind (I.named inputs.old) (file_work work name.now) (seen (I.asked inputs.old) (I.faults inputs.old) (I.taken inputs.old)) (seen (I.asked inputs.new) (I.faults inputs.new) (I.taken inputs.new))) }
-    ensures memory { OnErr result (MayStop (I.named inputs.old) (file_work work name.now) (seen (I.asked inputs.old) (I.faults inputs.old) (I.taken inputs.old)) (seen (I.asked inputs.new) (I.faults inputs.new) (I.taken inputs.new))) }
+    ensures found { IfOk result (MayFind (I.named inputs.old) (check_work name.now) (seen (I.asked inputs.old) (I.faults inputs.old) (I.taken inputs.old)) (seen (I.asked inputs.new) (I.faults inputs.new) (I.taken inputs.new))) }
+    ensures memory { OnErr result (MayStop (I.named inputs.old) (check_work name.now) (seen (I.asked inputs.old) (I.faults inputs.old) (I.taken inputs.old)) (seen (I.asked inputs.new) (I.faults inputs.new) (I.taken inputs.new))) }
     ensures named { I.named inputs.new ≡ I.named inputs.old }
     ensures later { I.faults inputs.old ≤ I.faults inputs.new }
 {
-    match take_bytes(alloc, name, MAX_CAPSULE_BYTES, inputs) {
-        Ok(Step::Goes(bytes)) => {
-            let answer = on_bytes(alloc, work, bytes)?;
+    match take_verdict(alloc, name, inputs) {
+        Ok(Step::Goes(verdict)) => {
+            let answer = told(alloc, verdict)?;
             Ok(Found::bare(alloc, answer))
         }
         Ok(Step::Ends(answer)) => Ok(Found::bare(alloc, answer)),
@@ -39,12 +37,33 @@ pub fn on_file<I: Inputs>(
     }
 }
 
-/// What is found of the bytes of the file.
-fn on_bytes(alloc: Global, work: FileWork, bytes: Blob) -> Result<Answer, NoMemory>
-    ensures { IfOk result (λ answer. answer ≡ bytes_answer work bytes) }
+/// Reads the file of this name, and rebuilds it.
+pub fn rebuild_file<I: Inputs>(
+    alloc: Global,
+    name: &Text,
+    inputs: &mut I,
+) -> Result<Found, NoMemory>
+    ensures found { IfOk result (MayFind (I.named inputs.old) (rebuild_work name.now) (seen (I.asked inputs.old) (I.faults inputs.old) (I.taken inputs.old)) (seen (I.asked inputs.new) (I.faults inputs.new) (I.taken inputs.new))) }
+    ensures memory { OnErr result (MayStop (I.named inputs.old) (rebuild_work name.now) (seen (I.asked inputs.old) (I.faults inputs.old) (I.taken inputs.old)) (seen (I.asked inputs.new) (I.faults inputs.new) (I.taken inputs.new))) }
+    ensures named { I.named inputs.new ≡ I.named inputs.old }
+    ensures later { I.faults inputs.old ≤ I.faults inputs.new }
 {
-    match judge(bytes.as_slice()) {
-        Verdict::Whole(length) => on_whole(alloc, work, bytes, length),
+    match take_bytes(alloc, name, MAX_CAPSULE_BYTES, inputs) {
+        Ok(Step::Goes(bytes)) => {
+            let answer = rebuild_bytes(alloc, bytes)?;
+            Ok(Found::bare(alloc, answer))
+        }
+        Ok(Step::Ends(answer)) => Ok(Found::bare(alloc, answer)),
+        Err(NoMemory) => Err(NoMemory),
+    }
+}
+
+/// What is told of a file, by the verdict on it.
+fn told(alloc: Global, verdict: Verdict) -> Result<Answer, NoMemory>
+    ensures { IfOk result (λ answer. answer ≡ verdict_answer verdict) }
+{
+    match verdict {
+        Verdict::Whole(length) => Answer::done(alloc, length),
         Verdict::Refused(refusal) => {
             Answer::refused(alloc, refusal.at as usize, printed(refusal.why))
         }
@@ -52,15 +71,14 @@ fn on_bytes(alloc: Global, work: FileWork, bytes: Blob) -> Result<Answer, NoMemo
     }
 }
 
-/// The work on a file that is one whole capsule.
-fn on_whole(alloc: Global, work: FileWork, bytes: Blob, size: usize) -> Result<Answer, NoMemory>
-    requires accepted { refusal bytes ≡ None }
-    requires whole { length bytes ≤ image_size bytes }
-    ensures { IfOk result (λ answer. answer ≡ whole_answer work bytes size) }
+/// The capsule that is the whole file without its lead and its pads, or why there is none.
+fn rebuild_bytes(alloc: Global, bytes: Blob) -> Result<Answer, NoMemory>
+    ensures { IfOk result (λ answer. answer ≡ rebuild_answer bytes) }
 {
-    match work {
-        FileWork::Check => Answer::done(alloc, size),
-        FileWork::Rebuild => rebuilt(alloc, bytes),
+    match judge(bytes.as_slice()) {
+        Verdict::Whole(_) => rebuilt(alloc, bytes),
+        Verdict::Refused(refusal) => told(alloc, Verdict::Refused(refusal)),
+        Verdict::Trailing(at) => told(alloc, Verdict::Trailing(at)),
     }
 }
 

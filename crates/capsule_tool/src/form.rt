@@ -22,15 +22,6 @@ pub enum Form {
     Load,
 }
 
-/// What is done with the one file that the words name.
-#[derive(Clone, Copy, Debug, PartialEq, Eq)]
-pub enum FileWork {
-    /// Its length is told.
-    Check,
-    /// It is written again without its lead and its pads.
-    Rebuild,
-}
-
 /// The form of the words. None exactly where they have none of the six.
 pub fn form_of_words(words: &[Text]) -> Option<Form>
     ensures { result ≡ form_of words.now }

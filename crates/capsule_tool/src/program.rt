@@ -8,8 +8,8 @@ ghost use Rattle.capsule_tool.specs.Told.{work_of};
 ghost use Rattle.capsule_tool.specs.Works.{MayFind, MayStop};
 
 use crate::answer::Answer;
-use crate::file::on_file;
-use crate::form::{FileWork, Form, form_of_words};
+use crate::file::{check_file, rebuild_file};
+use crate::form::{Form, form_of_words};
 use crate::found::Found;
 use crate::play::on_play;
 use crate::status::Status;
@@ -34,8 +34,8 @@ fn find<I: Inputs>(alloc: Global, words: &[Text], inputs: &mut I) -> Result<Foun
 {
     match form_of_words(words) {
         None => Ok(Found::bare(alloc, Answer::usage(alloc)?)),
-        Some(Form::Check) => on_file(alloc, FileWork::Check, &words[1], inputs),
-        Some(Form::Rebuild) => on_file(alloc, FileWork::Rebuild, &words[1], inputs),
+        Some(Form::Check) => check_file(alloc, &words[1], inputs),
+        Some(Form::Rebuild) => rebuild_file(alloc, &words[1], inputs),
         Some(Form::Play) => on_play(alloc, &words[1], &words[2], inputs),
         Some(Form::Show | Form::Make | Form::Load) => {
             Ok(Found::bare(alloc, Answer::later(alloc, words[0].as_str())?))
