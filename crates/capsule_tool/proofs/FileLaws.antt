@@ -1,12 +1,12 @@
 -- What the scan of a file finds, by its capsule header and by what was found of its body.
-use Rattle.std.proofs.Common.{◌≡◌, ℕ, ◌+◌, ◌-◌, ◌<◌, ◌≤◌, Bool, true, false, List, [], ◌++◌, length, take, drop, length-append, length-take, length-take-le, length-drop, refl, sym, ap, subst, ◌∙◌, arith}
+use Rattle.std.proofs.Common.{◌≡◌, ℕ, ◌+◌, ◌-◌, ◌<◌, ◌≤◌, true, false, List, [], ◌++◌, length, take, drop, length-append, length-take, length-take-le, length-drop, refl, sym, ap, subst, ◌∙◌, arith}
 use Rattle.std.specs.Prelude.{Option, None, Some, Result, Ok, Err, IsErrOf}
 use Rattle.std.specs.Io.KnownBytes.{IsAtEnd}
 use Rattle.std.proofs.lemmas.Bool.{cond-true, cond-false, ltb-false, or_parts}
 use Rattle.std.proofs.lemmas.List.{take_all, take_at, take-take, drop-take, drop_at, drop-drop}
 use Rattle.cu_base.specs.Causes.{Rose}
 use Rattle.cu_base.specs.Fields.{field}
-use Rattle.cu_base.specs.Refusals.{Row, first_refusal}
+use Rattle.cu_base.specs.Refusals.{first_refusal}
 use Rattle.cu_base.specs.declared.limits.TheConstants.{MAX_CAPSULE_BYTES}
 use Rattle.cu_io.specs.Streams.{Progress, Goes, EndsIn}
 use Rattle.cu_io.specs.declared.stream.StreamFault.{StreamFault}
@@ -17,9 +17,8 @@ use Rattle.fmp_headers.specs.declared.capsule.CapsuleHeader.{CapsuleHeader}
 use Rattle.fmp_headers.specs.declared.faults.HeaderFault.{HeaderFault}
 use Rattle.fmp_headers.proofs.Rows.{passed}
 use Rattle.fmp_headers.proofs.Headers.{header_or_ok, header_given}
-use Rattle.capsule_grammar.specs.Accepted.{IsFront}
 use Rattle.capsule_grammar.specs.Fronts.{Begins}
-use Rattle.capsule_grammar.specs.Refusals.{capsule_rows, body_rows, fmp_rows, body_of, is_fmp_guid}
+use Rattle.capsule_grammar.specs.Refusals.{capsule_rows, fmp_rows, body_of, is_fmp_guid}
 use Rattle.capsule_grammar.specs.declared.refusal.Why.{Why}
 use Rattle.capsule_grammar.proofs.FrontLemmas.{field_same, number_least, shorter_least}
 use Rattle.capsule_grammar.proofs.Read.{is_front}

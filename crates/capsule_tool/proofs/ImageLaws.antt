@@ -1,21 +1,19 @@
 -- How the images of a body are scanned one after the other.
-use Rattle.std.proofs.Common.{◌≡◌, ℕ, ◌+◌, ◌-◌, ◌<◌, ◌≤◌, min, List, [], ◌∷◌, ◌++◌, length, take, drop, length-append, length-take, length-drop, append_assoc, append-nil, refl, sym, ap, ◌∙◌, arith, inl, inr}
-use Rattle.std.specs.Prelude.{Option, None, Some, Result, Ok, Err}
-use Rattle.std.specs.Io.KnownBytes.{IsAtEnd}
+use Rattle.std.proofs.Common.{◌≡◌, ℕ, ◌+◌, ◌-◌, ◌<◌, ◌≤◌, min, List, [], ◌++◌, length, take, drop, length-append, length-take, length-drop, append_assoc, append-nil, refl, sym, ap, ◌∙◌, arith, inl, inr}
+use Rattle.std.specs.Prelude.{Option, None, Some, Ok, Err}
 use Rattle.std.proofs.lemmas.Bool.{cases_lt}
 use Rattle.std.proofs.lemmas.List.{take-take, take_all, drop_at}
 use Rattle.std.proofs.KnownBytes.{Consumes-nil}
-use Rattle.cu_base.specs.Causes.{Rose}
 use Rattle.cu_base.specs.Fields.{field}
-use Rattle.cu_base.specs.Refusals.{Row, first_refusal}
+use Rattle.cu_base.specs.Refusals.{first_refusal}
 use Rattle.cu_io.specs.Streams.{Progress, Goes}
 use Rattle.cu_io.proofs.Taking.{goes_after}
-use Rattle.capsule_grammar.specs.Fronts.{Begins, bound_by, ArePlaces}
+use Rattle.capsule_grammar.specs.Fronts.{Begins, bound_by}
 use Rattle.capsule_grammar.specs.Refusals.{image_rows, all_image_rows, driver_count, image_count, item_count, list_end, item, bound}
 use Rattle.capsule_grammar.specs.declared.refusal.Why.{Why}
 use Rattle.capsule_grammar.proofs.FrontLemmas.{begins_less, field_same, bound_same, driver_count_same, image_count_same}
 use Rattle.capsule_grammar.proofs.Tables.{some_in, none_in}
-use Rattle.capsule_tool.specs.Scans.{Tells, Scans, ScansImage, TellsImage}
+use Rattle.capsule_tool.specs.Scans.{Scans, ScansImage}
 use Rattle.capsule_tool.specs.declared.scan.stop.ScanStop.{ScanStop}
 use Rattle.capsule_tool.specs.declared.scan.stop.ScanStop.TheVariants.{Refused, Ended, Failed, Memory}
 use Rattle.capsule_tool.proofs.ScanLaws.{rose_then}

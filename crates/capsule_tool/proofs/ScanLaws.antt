@@ -1,7 +1,6 @@
 -- What a scan finds, by what came in each of its reads.
-use Rattle.std.proofs.Common.{◌≡◌, ℕ, ◌+◌, ◌-◌, ◌<◌, ◌≤◌, min, List, [], ◌∷◌, ◌++◌, length, take, drop, length-append, length-take, length-take-le, length-drop, refl, sym, ap, ◌∙◌, arith}
+use Rattle.std.proofs.Common.{◌≡◌, ℕ, ◌+◌, ◌≤◌, min, List, [], ◌++◌, length, take, drop, length-append, length-take, length-take-le, length-drop, refl, sym, ap, ◌∙◌, arith}
 use Rattle.std.specs.Prelude.{Option, None, Some, Result, Ok, Err, IsErrOf}
-use Rattle.std.specs.Io.KnownBytes.{IsAtEnd}
 use Rattle.std.proofs.lemmas.List.{drop-take, drop_at}
 use Rattle.cu_base.specs.Causes.{Rose}
 use Rattle.cu_base.specs.Refusals.{Row, first_refusal}

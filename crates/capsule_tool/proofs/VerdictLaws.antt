@@ -1,6 +1,6 @@
 -- The verdict on a file, by its first bytes and by what was found of its body.
-use Rattle.std.proofs.Common.{◌≡◌, ℕ, ◌+◌, ◌-◌, ◌<◌, ◌≤◌, ltb, min, Bool, true, false, List, [], ◌++◌, length, take, length-append, length-take, refl, sym, ap, ◌∙◌, arith}
-use Rattle.std.specs.Prelude.{Option, None, Some, Result, Ok, IsErrOf}
+use Rattle.std.proofs.Common.{◌≡◌, ℕ, ◌+◌, ◌-◌, ◌<◌, ◌≤◌, min, List, ◌++◌, length, take, length-append, length-take, refl, sym, ap, ◌∙◌, arith}
+use Rattle.std.specs.Prelude.{Option, None, Result, Ok, IsErrOf}
 use Rattle.std.specs.Io.KnownBytes.{IsAtEnd}
 use Rattle.std.proofs.lemmas.Bool.{cond-true, cond-false, lt-ltb, le-ltb}
 use Rattle.std.proofs.lemmas.List.{take_all, take_at, take-take, take-append-le}
@@ -10,7 +10,7 @@ use Rattle.cu_io.specs.Streams.{Progress, Goes, Passes}
 use Rattle.cu_io.proofs.Taking.{goes_after, passes_after}
 use Rattle.fmp_headers.specs.CapsuleHeader.{image_size}
 use Rattle.capsule_grammar.specs.Fronts.{Begins}
-use Rattle.capsule_grammar.specs.Refusals.{Answers, capsule_rows, body_rows, refusal}
+use Rattle.capsule_grammar.specs.Refusals.{Answers, capsule_rows, body_rows}
 use Rattle.capsule_grammar.specs.declared.refusal.Refusal.{Refusal}
 use Rattle.capsule_grammar.specs.declared.refusal.Why.{Why}
 use Rattle.capsule_grammar.proofs.FrontLemmas.{number_least}

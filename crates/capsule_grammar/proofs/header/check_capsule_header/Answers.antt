@@ -1,5 +1,4 @@
-use Rattle.std.proofs.Common.{◌∙◌, arith, rules}
-use Rattle.std.proofs.lemmas.Grind.{common_steps}
+use Rattle.std.proofs.Common.{◌∙◌, rules}
 use Rattle.capsule_grammar.proofs.FrontLemmas.{capsule_refusal_same}
 use Rattle.capsule_grammar.proofs.header.check_capsule_header.Goals as goal
 

@@ -1,4 +1,4 @@
-use Rattle.std.proofs.Common.{rules, refl, sym, ◌∙◌}
+use Rattle.std.proofs.Common.{rules, refl}
 use Rattle.capsule_tool.specs.declared.input.Reading.TheVariants.{Whole, Long}
 use Rattle.capsule_tool.proofs.JudgeLaws.{begun, may_hold, may_pass, counted}
 use Rattle.capsule_tool.proofs.input.judge_input.Goals as goal

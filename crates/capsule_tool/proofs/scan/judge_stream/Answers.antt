@@ -1,4 +1,3 @@
-use Rattle.std.proofs.Common.{refl}
 use Rattle.capsule_tool.proofs.VerdictLaws.{judged_on, judged_cut, passed_on, no_error}
 use Rattle.capsule_tool.proofs.WorkLaws.{lift}
 use Rattle.capsule_tool.proofs.scan.judge_stream.Goals as goal

@@ -1,4 +1,4 @@
-use Rattle.std.proofs.Common.{◌≡◌, ◌+◌, ◌-◌, drop, arith}
+use Rattle.std.proofs.Common.{◌≡◌, ◌+◌, ◌-◌, arith}
 use Rattle.capsule_grammar.specs.Refusals.{fmp_rows}
 use Rattle.capsule_tool.proofs.ScanLaws.{scans_ahead}
 use Rattle.capsule_tool.proofs.scan.scan_rest.Goals as goal

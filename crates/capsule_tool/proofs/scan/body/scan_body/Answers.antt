@@ -1,4 +1,3 @@
-use Rattle.std.proofs.Common.{arith}
 use Rattle.std.proofs.lemmas.Result.{err_from_is_err_and}
 use Rattle.capsule_tool.proofs.ScanLaws.{offsets_told, images_told}
 use Rattle.capsule_tool.proofs.scan.body.scan_body.Goals as goal

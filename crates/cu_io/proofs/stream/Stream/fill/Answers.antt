@@ -1,5 +1,4 @@
-use Rattle.std.proofs.Common.{rules, subst, sym, arith}
-use Rattle.cu_io.specs.Streams.{Goes}
+use Rattle.std.proofs.Common.{rules}
 use Rattle.cu_io.proofs.Taking.{goes_after, take_filled}
 use Rattle.cu_io.proofs.stream.Stream.fill.Goals as goal
 
