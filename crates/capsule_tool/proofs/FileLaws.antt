@@ -42,10 +42,14 @@ head_front head bytes file long is =
 
 pub cut_in_head : (head : List ℕ) (a b : Progress) → EndsIn head a b → length head ≡ 28 → IsCutFile head a b
 cut_in_head head a b (n, below, goes, end) long =
-    let l : length (take n head) ≡ n = length-take-le n head (omega (arith, below)) in
-    (take n head, goes, end, omega (arith, l, below, long),
-    take_all 28 (take n head) (omega (arith, l, below, long)) ∙ ap (λ k. take k head) (sym l),
-    λ none. absurd (omega (arith, (is_front (take n head) none).long, l, below, long)))
+    let l : length (take n head) ≡ n = length-take-le n head (omega (arith, below)) in (
+      take n head,
+      goes,
+      end,
+      omega (arith, l, below, long),
+      take_all 28 (take n head) (omega (arith, l, below, long)) ∙ ap (λ k. take k head) (sym l),
+      λ none. absurd (omega (arith, (is_front (take n head) none).long, l, below, long)),
+    )
 
 -- where the file's header is not refused, that of head is not
 pub header_passes : (head file : List ℕ) → length head ≡ 28 → take 28 file ≡ head → first_refusal (capsule_rows file) ≡ None → capsule_header head ≡ Ok (capsule_header_fields head)
@@ -73,12 +77,17 @@ header_bounds head header read =
 -- a file that is no FMP capsule, or whose header is refused, has nothing more to tell
 pub file_plain : (head : List ℕ) (a b : Progress) → Goes head a b → length head ≡ 28
     → (capsule_header head ≡ Ok (capsule_header_fields head) → is_fmp_guid (field head 0 16) ≡ false) → TellsFile head a b None
-file_plain head a b goes long plain =
-    (head, goes, omega (arith, long), omega (arith, long), take_all 28 head (omega (arith, long)),
-    λ file is none.
+file_plain head a b goes long plain = (
+  head,
+  goes,
+  omega (arith, long),
+  omega (arith, long),
+  take_all 28 head (omega (arith, long)),
+  λ file is none.
       let front : take 28 file ≡ head = ap (λ n. take n file) (sym long) ∙ is in
       let guid : field file 0 16 ≡ field head 0 16 = field_same 0 16 (head_begins head file long front) (omega (arith, long)) in
-      ap first_refusal (cond-false _ _ _ (ap is_fmp_guid guid ∙ plain (header_passes head file long front none))))
+      ap first_refusal (cond-false _ _ _ (ap is_fmp_guid guid ∙ plain (header_passes head file long front none))),
+)
 
 -- ---- an FMP capsule
 
@@ -97,7 +106,7 @@ rest_begins head bytes file s long is within there =
     let sum : 28 + length bytes ≡ length (head ++ bytes) = omega (arith, length-append head bytes, long) in
     record {
       same = take-take (length bytes) (s - 28) (drop 28 file) within
-        ∙ (sym (drop-take 28 (length bytes) file) ∙ (ap (λ n. drop 28 (take n file)) sum ∙ (ap (drop 28) is ∙ drop_at head bytes 28 long)));
+          ∙ (sym (drop-take 28 (length bytes) file) ∙ (ap (λ n. drop 28 (take n file)) sum ∙ (ap (drop 28) is ∙ drop_at head bytes 28 long)));
       long = omega (arith, length-take (s - 28) (drop 28 file), length-drop 28 file, there);
     }
 
@@ -121,30 +130,38 @@ file_tells : (head : List ℕ) (header : CapsuleHeader) (a b c : Progress) (refu
     → is_fmp_guid header.guid.bytes ≡ true
     → Tells (header.image_size - 28) (λ rest. fmp_rows (drop (header.header_size - 28) rest) header.header_size) [] b c refused → TellsFile head a c refused
 file_tells head header a b c refused goes long read fmp (bytes, then, short, tells) =
-    let bounds = header_bounds head header read in
-    (head ++ bytes, goes_after head bytes a b c goes then, omega (arith, length-append head bytes, long), omega (arith, length-append head bytes, long, short, bounds.low, bounds.within, bounds.limit),
-    take_at head bytes 28 long,
-    λ file is none.
-      let front = is_front file none in
-      let of = header_of head file header long (head_front head bytes file long is) read in
-      let rest = take (header.image_size - 28) (drop 28 file) in
-      let told : first_refusal (fmp_rows (drop (header.header_size - 28) rest) header.header_size) ≡ refused =
-        tells rest (rest_begins head bytes file header.image_size long is short (omega (arith, front.there, of.size))) in
-      let body : body_of file ≡ drop (header.header_size - 28) rest =
-        rw (of.low, of.size) (sym (body_behind file header.header_size header.image_size bounds.low bounds.within)) in
-      let same : fmp_rows (body_of file) (header_size file) ≡ fmp_rows (drop (header.header_size - 28) rest) header.header_size =
-        ap (λ l. fmp_rows l (header_size file)) body ∙ ap (fmp_rows (drop (header.header_size - 28) rest)) of.low in
-      ap first_refusal (cond-true _ _ _ (ap is_fmp_guid of.guid ∙ fmp) ∙ same) ∙ told)
+    let bounds = header_bounds head header read in (
+      head ++ bytes,
+      goes_after head bytes a b c goes then,
+      omega (arith, length-append head bytes, long),
+      omega (arith, length-append head bytes, long, short, bounds.low, bounds.within, bounds.limit),
+      take_at head bytes 28 long,
+      λ file is none.
+          let front = is_front file none in
+          let of = header_of head file header long (head_front head bytes file long is) read in
+          let rest = take (header.image_size - 28) (drop 28 file) in
+          let told : first_refusal (fmp_rows (drop (header.header_size - 28) rest) header.header_size) ≡ refused =
+          tells rest (rest_begins head bytes file header.image_size long is short (omega (arith, front.there, of.size))) in
+          let body : body_of file ≡ drop (header.header_size - 28) rest =
+          rw (of.low, of.size) (sym (body_behind file header.header_size header.image_size bounds.low bounds.within)) in
+          let same : fmp_rows (body_of file) (header_size file) ≡ fmp_rows (drop (header.header_size - 28) rest) header.header_size =
+          ap (λ l. fmp_rows l (header_size file)) body ∙ ap (fmp_rows (drop (header.header_size - 28) rest)) of.low in
+          ap first_refusal (cond-true _ _ _ (ap is_fmp_guid of.guid ∙ fmp) ∙ same) ∙ told,
+    )
 
 -- a file that ends within the capsule that its header tells
 file_cut : (head : List ℕ) (header : CapsuleHeader) (a b c : Progress) → Goes head a b → length head ≡ 28 → capsule_header head ≡ Ok header
     → (bytes : List ℕ) → Goes bytes b c → length bytes < header.image_size - 28 → IsAtEnd c.left → IsCutFile head a c
 file_cut head header a b c goes long read bytes then short end =
     let bounds = header_bounds head header read in
-    let is : take 28 (head ++ bytes) ≡ head = take_at head bytes 28 long in
-    (head ++ bytes, goes_after head bytes a b c goes then, end, omega (arith, length-append head bytes, long, short, bounds.low, bounds.within, bounds.limit),
-    is ∙ sym (take_all (length (head ++ bytes)) head (omega (arith, length-append head bytes))),
-    λ none. absurd (omega (arith, (is_front (head ++ bytes) none).there, (header_of head (head ++ bytes) header long is read).size, length-append head bytes, long, short)))
+    let is : take 28 (head ++ bytes) ≡ head = take_at head bytes 28 long in (
+      head ++ bytes,
+      goes_after head bytes a b c goes then,
+      end,
+      omega (arith, length-append head bytes, long, short, bounds.low, bounds.within, bounds.limit),
+      is ∙ sym (take_all (length (head ++ bytes)) head (omega (arith, length-append head bytes))),
+      λ none. absurd (omega (arith, (is_front (head ++ bytes) none).there, (header_of head (head ++ bytes) header long is read).size, length-append head bytes, long, short)),
+    )
 
 pub file_scanned : {X : Type 0} (head : List ℕ) (header : CapsuleHeader) (a b c : Progress) (result : Result X ScanStop) → Goes head a b → length head ≡ 28 → capsule_header head ≡ Ok header
     → is_fmp_guid header.guid.bytes ≡ true

@@ -94,30 +94,38 @@ pub scan_stopped : (X : Type 0) (front : List ℕ) (size at k here f t : ℕ) (a
     → f ≡ bound_by front size k → t ≡ bound_by front size (k + 1) → t ≤ size → here ≤ f → f ≤ t → ScansImage (f - here) (t - f) (at + f) b c (Err stop)
     → Scans {X = X} size (λ body. all_image_rows body at) front a c (Err stop)
 scan_stopped X front size at k here f t a b c (Refused refusal) was list low high from to within near rises (passed, head, gap, few, then, tells) =
-    let place : length (front ++ was.bytes) + length passed ≡ f = omega (arith, was.place, gap, near) in
-    (was.bytes ++ (passed ++ head), goes_after was.bytes (passed ++ head) a b c was.goes then,
-    omega (arith, length-append front (was.bytes ++ (passed ++ head)), length-append was.bytes (passed ++ head), length-append passed head, length-append front was.bytes, place, few, within, rises),
-    λ body begins.
-      let start : Begins front size body = begins_less front (was.bytes ++ (passed ++ head)) begins in
-      let d : driver_count body ≡ driver_count front = driver_count_same start (omega (arith, list)) in
-      let i : image_count body ≡ image_count front = image_count_same start (omega (arith, list)) in
-      some_in (λ j. image_rows (item body j) (at + bound body j)) (driver_count body) (image_count body) k (refusal.at, refusal.why)
-      (λ j from' below. was.rows body (begins_before front was.bytes (passed ++ head) body size begins) j (omega (arith, d, from')) below)
-      (omega (arith, d, low)) (omega (arith, d, i, high))
-      (item_told front was.bytes passed head body size at k f t (Some (refusal.at, refusal.why)) begins (omega (arith, list)) from to within place few tells))
-scan_stopped X front size at k here f t a b c Ended was list low high from to within near rises (bytes, then, short, end) =
-    (was.bytes ++ bytes, goes_after was.bytes bytes a b c was.goes then,
-    omega (arith, length-append front (was.bytes ++ bytes), length-append was.bytes bytes, length-append front was.bytes, was.place, short, near, rises, within), end)
+    let place : length (front ++ was.bytes) + length passed ≡ f = omega (arith, was.place, gap, near) in (
+      was.bytes ++ (passed ++ head),
+      goes_after was.bytes (passed ++ head) a b c was.goes then,
+      omega (arith, length-append front (was.bytes ++ (passed ++ head)), length-append was.bytes (passed ++ head), length-append passed head, length-append front was.bytes, place, few, within, rises),
+      λ body begins.
+          let start : Begins front size body = begins_less front (was.bytes ++ (passed ++ head)) begins in
+          let d : driver_count body ≡ driver_count front = driver_count_same start (omega (arith, list)) in
+          let i : image_count body ≡ image_count front = image_count_same start (omega (arith, list)) in
+          some_in (λ j. image_rows (item body j) (at + bound body j)) (driver_count body) (image_count body) k (refusal.at, refusal.why)
+          (λ j from' below. was.rows body (begins_before front was.bytes (passed ++ head) body size begins) j (omega (arith, d, from')) below)
+          (omega (arith, d, low)) (omega (arith, d, i, high))
+          (item_told front was.bytes passed head body size at k f t (Some (refusal.at, refusal.why)) begins (omega (arith, list)) from to within place few tells),
+    )
+scan_stopped X front size at k here f t a b c Ended was list low high from to within near rises (bytes, then, short, end) = (
+  was.bytes ++ bytes,
+  goes_after was.bytes bytes a b c was.goes then,
+  omega (arith, length-append front (was.bytes ++ bytes), length-append was.bytes bytes, length-append front was.bytes, was.place, short, near, rises, within),
+  end,
+)
 scan_stopped X front size at k here f t a b c Failed was list low high from to within near rises is = rose_then _ _ _ was.goes.later is
 scan_stopped X front size at k here f t a b c Memory was list low high from to within near rises is = tt
 
 pub scan_done : {X : Type 0} (x : X) (front : List ℕ) (size at k here : ℕ) (a b : Progress) → HasScanned front size at (driver_count front) k here a b
     → list_end front ≡ length front → item_count front ≤ k → here ≤ size → Scans size (λ body. all_image_rows body at) front a b (Ok x)
-scan_done x front size at k here a b was list end within =
-    (was.bytes, was.goes, omega (arith, was.place, within),
-    λ body begins.
+scan_done x front size at k here a b was list end within = (
+  was.bytes,
+  was.goes,
+  omega (arith, was.place, within),
+  λ body begins.
       let start : Begins front size body = begins_less front was.bytes begins in
       let d : driver_count body ≡ driver_count front = driver_count_same start (omega (arith, list)) in
       let i : image_count body ≡ image_count front = image_count_same start (omega (arith, list)) in
       none_in (λ j. image_rows (item body j) (at + bound body j)) (driver_count body) (image_count body)
-      (λ j low high. was.rows body begins j (omega (arith, d, low)) (omega (arith, d, i, high, end))))
+      (λ j low high. was.rows body begins j (omega (arith, d, low)) (omega (arith, d, i, high, end))),
+)

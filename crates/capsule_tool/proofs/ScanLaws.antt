@@ -47,9 +47,12 @@ pub image_told : (ahead size at : ℕ) (a b c : Progress) (head : List ℕ) (ref
 image_told ahead size at a b c head refused (passed, long, first) then few tells = (passed, head, long, few, goes_after passed head a b c first then, tells)
 
 pub image_cut : (ahead size : ℕ) (out : List ℕ) (a b c : Progress) → Passes ahead a b → EndsIn out b c → length out ≡ min 48 size → IsCut (ahead + size) [] a c
-image_cut ahead size out a b c (passed, long, first) (n, below, then, end) few =
-    (passed ++ take n out, goes_after passed (take n out) a b c first then,
-    omega (arith, length-append passed (take n out), length-take-le n out (omega arith), long, below, few), end)
+image_cut ahead size out a b c (passed, long, first) (n, below, then, end) few = (
+  passed ++ take n out,
+  goes_after passed (take n out) a b c first then,
+  omega (arith, length-append passed (take n out), length-take-le n out (omega arith), long, below, few),
+  end,
+)
 
 pub image_stopped : {T : Type 0} (ahead size at : ℕ) (a c : Progress) (fault : StreamFault) → (IsErrOf {T = T} (Err fault) faults.Ended → IsCut (ahead + size) [] a c) → (IsErrOf {T = T} (Err fault) faults.Failed → Rose a.faults c.faults)
     → ScansImage ahead size at a c (Err (stop_of fault))
@@ -77,18 +80,26 @@ pub offsets_told : (X : Type 0) (size at : ℕ) (front : List ℕ) (a b : Progre
     → ((body : List ℕ) → Begins front size body → first_refusal (fmp_header_rows body at) ≡ None)
     → ((body : List ℕ) → Begins front size body → Answers {X = Unit {0}} (Err refusal) (first_refusal (all_offset_rows body at)))
     → Scans {X = X} size (λ body. fmp_rows body at) [] a b (Err (Refused refusal))
-offsets_told X size at front a b refusal goes within header offsets =
-    (front, goes, within, λ body begins. first-none (fmp_header_rows body at) (all_offset_rows body at ++ all_image_rows body at) (header body begins)
-      ∙ first-some (all_offset_rows body at) (all_image_rows body at) (refusal.at, refusal.why) (offsets body begins))
+offsets_told X size at front a b refusal goes within header offsets = (
+  front,
+  goes,
+  within,
+  λ body begins. first-none (fmp_header_rows body at) (all_offset_rows body at ++ all_image_rows body at) (header body begins)
+      ∙ first-some (all_offset_rows body at) (all_image_rows body at) (refusal.at, refusal.why) (offsets body begins),
+)
 
 images_tell : (size at : ℕ) (front : List ℕ) (a b c : Progress) (refused : Option (ℕ × Why)) → Goes front a b
     → ((body : List ℕ) → Begins front size body → first_refusal (fmp_header_rows body at) ≡ None)
     → ((body : List ℕ) → Begins front size body → first_refusal (all_offset_rows body at) ≡ None)
     → Tells size (λ body. all_image_rows body at) front b c refused → Tells size (λ body. fmp_rows body at) [] a c refused
-images_tell size at front a b c refused goes header offsets (bytes, then, within, tells) =
-    (front ++ bytes, goes_after front bytes a b c goes then, within, λ body begins.
+images_tell size at front a b c refused goes header offsets (bytes, then, within, tells) = (
+  front ++ bytes,
+  goes_after front bytes a b c goes then,
+  within,
+  λ body begins.
       let first : Begins front size body = begins_less front bytes begins in
-      rows_three (fmp_header_rows body at) (all_offset_rows body at) (all_image_rows body at) refused (header body first) (offsets body first) (tells body begins))
+      rows_three (fmp_header_rows body at) (all_offset_rows body at) (all_image_rows body at) refused (header body first) (offsets body first) (tells body begins),
+)
 
 -- the images, behind header and offsets of which none is refused
 pub images_told : {X : Type 0} (size at : ℕ) (front : List ℕ) (a b c : Progress) (result : Result X ScanStop) → Goes front a b
@@ -113,9 +124,12 @@ begins_ahead passed bytes whole ahead size gap begins =
 
 ahead_tells : (ahead size : ℕ) (rows : List ℕ → List (Row Why)) (a b c : Progress) (refused : Option (ℕ × Why)) → Passes ahead a b → Tells size rows [] b c refused
     → Tells (ahead + size) (λ rest. rows (drop ahead rest)) [] a c refused
-ahead_tells ahead size rows a b c refused (passed, gap, first) (bytes, then, within, tells) =
-    (passed ++ bytes, goes_after passed bytes a b c first then, omega (arith, length-append passed bytes, gap, within),
-    λ whole begins. tells (drop ahead whole) (begins_ahead passed bytes whole ahead size gap begins))
+ahead_tells ahead size rows a b c refused (passed, gap, first) (bytes, then, within, tells) = (
+  passed ++ bytes,
+  goes_after passed bytes a b c first then,
+  omega (arith, length-append passed bytes, gap, within),
+  λ whole begins. tells (drop ahead whole) (begins_ahead passed bytes whole ahead size gap begins),
+)
 
 pub scans_ahead : {X : Type 0} (ahead size : ℕ) (rows : List ℕ → List (Row Why)) (a b c : Progress) (result : Result X ScanStop) → Passes ahead a b → Scans size rows [] b c result
     → Scans (ahead + size) (λ rest. rows (drop ahead rest)) [] a c result

@@ -27,7 +27,7 @@ front_begins head file size there found all few is =
     let long : length (take there head) ≡ there = omega (arith, length-take there head, all, few) in
     record {
       same = ap (λ n. take n file) long
-        ∙ (sym (take-take there 28 file (omega (arith, few))) ∙ (ap (take there) is.front ∙ take-take there size head (omega (arith, few))));
+          ∙ (sym (take-take there 28 file (omega (arith, few))) ∙ (ap (take there) is.front ∙ take-take there size head (omega (arith, few))));
       long = is.long;
     }
 
@@ -60,13 +60,17 @@ pub judged_on : (head : List ℕ) (a b c : Progress) (refused : Option (ℕ × W
 judged_on head a b c refused found verdict begun (bytes, goes, long, few, front, tells) answers (rest, then, end, limit, by) =
     let all : length (bytes ++ rest) ≡ c.place = omega (arith, length-append bytes rest, goes.place, then.place, begun) in
     let whole : length head ≡ 28 = sym (ap length front) ∙ omega (arith, length-take 28 bytes, long) in
-    let past : 28 ≤ c.place = omega (arith, goes.place, then.place, long) in
-    (bytes ++ rest, goes_after bytes rest a b c goes then, end, omega (arith, all, limit),
-    by (bytes ++ rest) (record {
-      long = all;
-      front = take-append-le 28 bytes rest long ∙ (front ∙ sym (take_all c.place head (omega (arith, whole, past))));
-      body = λ none. answers _ (tells (bytes ++ rest) (take_at bytes rest (length bytes) refl) none);
-    }))
+    let past : 28 ≤ c.place = omega (arith, goes.place, then.place, long) in (
+      bytes ++ rest,
+      goes_after bytes rest a b c goes then,
+      end,
+      omega (arith, all, limit),
+      by (bytes ++ rest) (record {
+        long = all;
+        front = take-append-le 28 bytes rest long ∙ (front ∙ sym (take_all c.place head (omega (arith, whole, past))));
+        body = λ none. answers _ (tells (bytes ++ rest) (take_at bytes rest (length bytes) refl) none);
+      }),
+    )
 
 pub judged_cut : (head : List ℕ) (a b : Progress) (size : ℕ) (found : Result (Unit {0}) Refusal) (verdict : Verdict) → a.place ≡ 0 → size ≡ b.place → IsCutFile head a b
     → ((file : List ℕ) → IsFound head size found file → verdict ≡ verdict_of file) → IsJudged a b verdict

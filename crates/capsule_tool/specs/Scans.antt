@@ -53,14 +53,14 @@ ScansImage ahead size at old new (Err Ended) = IsCut (ahead + size) [] old new
 ScansImage ahead size at old new (Err Failed) = Rose old.faults new.faults
 ScansImage ahead size at old new (Err Memory) = ⊤
 
--- Some bytes came, of which head is the first 28. Every file that begins with them has no refused header only where this is
--- the first row of its body that holds.
+-- Some bytes came, of which head is the first 28. In every file that begins with them, and whose capsule header is not
+-- refused, this is the first row of the body that holds.
 abbrev pub TellsFile : List ℕ → Progress → Progress → Option (ℕ × Why) → Type 0
 TellsFile head old new refused =
     (bytes : List ℕ) × Goes bytes old new × (28 ≤ length bytes) × (length bytes ≤ MAX_CAPSULE_BYTES) × (take 28 bytes ≡ head)
     × ((file : List ℕ) → take (length bytes) file ≡ bytes → first_refusal (capsule_rows file) ≡ None → first_refusal (body_rows file) ≡ refused)
 
--- all bytes came, whose front is that of head, and their capsule header is refused
+-- all bytes came, whose first ones head has, and their capsule header is refused
 abbrev pub IsCutFile : List ℕ → Progress → Progress → Type 0
 IsCutFile head old new =
     (bytes : List ℕ) × Goes bytes old new × IsAtEnd new.left × (length bytes ≤ MAX_CAPSULE_BYTES) × (take 28 bytes ≡ take (length bytes) head)

@@ -17,11 +17,7 @@ use cu_io::Inputs;
 use std::alloc::Global;
 
 /// Checks the file of this name as it is read; its bytes are not kept.
-pub fn check_file<I: Inputs>(
-    alloc: Global,
-    name: &Text,
-    inputs: &mut I,
-) -> Result<Found, NoMemory>
+pub fn check_file<I: Inputs>(alloc: Global, name: &Text, inputs: &mut I) -> Result<Found, NoMemory>
     ensures found { IfOk result (MayFind (I.named inputs.old) (check_work name.now) (seen (I.asked inputs.old) (I.faults inputs.old) (I.taken inputs.old)) (seen (I.asked inputs.new) (I.faults inputs.new) (I.taken inputs.new))) }
     ensures memory { OnErr result (MayStop (I.named inputs.old) (check_work name.now) (seen (I.asked inputs.old) (I.faults inputs.old) (I.taken inputs.old)) (seen (I.asked inputs.new) (I.faults inputs.new) (I.taken inputs.new))) }
     ensures named { I.named inputs.new ≡ I.named inputs.old }

@@ -16,12 +16,12 @@ use body::scan_body;
 use capsule_grammar::{Refusal, check_capsule_header, is_fmp_guid};
 use cu_base::MAX_CAPSULE_BYTES;
 use cu_io::{ReadFault, Source, Stream, StreamFault};
-use fmp_headers::CapsuleHeader;
+use fmp_headers::{CAPSULE_HEADER_BYTES, CapsuleHeader};
 use std::alloc::Global;
 use stop::ScanStop;
 
 /// The bytes of the fields of a capsule header.
-const HEADER_BYTES: usize = 28;
+const HEADER_BYTES: usize = CAPSULE_HEADER_BYTES as usize;
 
 /// Judges the file that a stream begins, which is read to its end. TooLong comes exactly where it has more
 /// than 67,108,864 bytes, after one more was taken, and Read only where the source's count rose.
@@ -109,7 +109,7 @@ fn scan_rest<S: Source>(
     ensures scan { Scans (header.now.image_size - 28) (λ rest. fmp_rows (drop (header.now.header_size - 28) rest) header.now.header_size) [] stream.old stream.new result }
     ensures later { stream.old.faults ≤ stream.new.faults }
 {
-    stream.pass((header.header_size - HEADER_BYTES as u32) as u64)?;
+    stream.pass((header.header_size - CAPSULE_HEADER_BYTES) as u64)?;
     scan_body(
         alloc,
         stream,

@@ -57,11 +57,7 @@ pub fn take_verdict<I: Inputs>(
 }
 
 /// The step that a reading of the input of this name makes.
-fn step_of<T: Drop>(
-    alloc: Global,
-    name: &Text,
-    reading: Reading<T>,
-) -> Result<Step<T>, NoMemory>
+fn step_of<T: Drop>(alloc: Global, name: &Text, reading: Reading<T>) -> Result<Step<T>, NoMemory>
     ensures { IfOk result (StepsBy name.now reading) }
 {
     match reading {

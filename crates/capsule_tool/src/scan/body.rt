@@ -13,10 +13,8 @@ use capsule_grammar::{
 };
 use cu_base::Blob;
 use cu_io::{Source, Stream};
+use fmp_headers::FMP_HEADER_BYTES;
 use std::alloc::Global;
-
-/// The bytes of the FMP header.
-const FMP_HEADER_BYTES: usize = 8;
 
 /// The most bytes of an image header.
 const MAX_IMAGE_HEADER_BYTES: u32 = 48;
@@ -54,8 +52,8 @@ fn scan_front<S: Source>(
     ensures stop { IfErr result (λ stop. Scans {X = List ℕ} size (λ body. fmp_header_rows body at) [] stream.old stream.new (Err stop)) }
     ensures later { stream.old.faults ≤ stream.new.faults }
 {
-    let mut head = [0u8; FMP_HEADER_BYTES];
-    let head = &mut head[..FMP_HEADER_BYTES.min(size as usize)];
+    let mut head = [0u8; FMP_HEADER_BYTES as usize];
+    let head = &mut head[..FMP_HEADER_BYTES.min(size) as usize];
     stream.fill(head)?;
     check_fmp_header(head, size, at)?;
     let mut front = Blob::from_slice(alloc, head)?;

@@ -7,8 +7,8 @@ pub returns-in_err-fill-clause-scan : goal.returns-in_err-fill-clause-scan
 returns-in_err-fill-clause-scan g c =
     let p = err_from_is_err_and c.from_residual-in_err-fill.result c.from_residual-in_err-fill.ensures.1 in
     rw (p.1, p.2) (image_stopped _ _ _ _ _ _
-      (λ is. image_cut _ _ _ _ _ _ c.in_ok-pass.ensures.ok (c.in_err-fill.ensures.ended is) (head_few 48 _ _ _ _ refl c.min-there.ensures c.fill.ensures.long))
-      (λ is. rose_then _ _ _ c.in_ok-pass.ensures.cause.later (c.in_err-fill.ensures.cause.failed is)))
+    (λ is. image_cut _ _ _ _ _ _ c.in_ok-pass.ensures.ok (c.in_err-fill.ensures.ended is) (head_few 48 _ _ _ _ refl c.min-there.ensures c.fill.ensures.long))
+    (λ is. rose_then _ _ _ c.in_ok-pass.ensures.cause.later (c.in_err-fill.ensures.cause.failed is)))
 
 pub returns-in_err-check_image-clause-scan : goal.returns-in_err-check_image-clause-scan
 returns-in_err-check_image-clause-scan g c =
