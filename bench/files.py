@@ -5,9 +5,10 @@ Usage: python3 bench/files.py [PROGRAM]
 
 PROGRAM is crates/capsule_tool/out/capsule_tool unless another is named. Two files are made: a capsule of one
 item and one of 65,535 items. Each command runs nine times, and the least time counts; a ratio is that of the
-program to its yardstick. `dd bs=64M` is the yardstick of a program that reads a whole file into fresh memory.
-Memory is the greatest resident set; the files are made by a process of their own, since a process that is
-started counts what the one that starts it holds.
+program to its yardstick. `dd bs=64M` is the yardstick of a program that reads a whole file into fresh memory;
+`dd` and `cp` in sum are that of one that keeps a file and then writes it. Memory is the greatest resident set,
+told by a process that holds little itself, since a process that is started counts what the one that starts it
+holds.
 """
 import os
 import struct
@@ -21,6 +22,8 @@ FMP = bytes.fromhex("edd5cb6d2de8444cbda17194199ad92a")
 HERE = os.path.dirname(os.path.abspath(__file__))
 PROGRAM = os.path.join(HERE, "..", "crates", "capsule_tool", "out", "capsule_tool")
 RUNS = 9
+TIME = "/usr/bin/time"
+LARGE_PAGES = "glibc.malloc.hugetlb=1"
 
 
 def capsule(items, image_bytes):
@@ -33,35 +36,46 @@ def capsule(items, image_bytes):
     return FMP + struct.pack("<III", 28, 0x50000, 28 + len(body)) + body
 
 
-def measure(command, copy, out=os.devnull):
-    """The least milliseconds and the greatest resident set, in bytes, of a command. The copy that the last run
-    made is removed before each run."""
-    best, most = float("inf"), 0
+def measure(command, copy, out=os.devnull, env=None):
+    """The least milliseconds of a command. The copy that the last run made is removed before each run."""
+    best = float("inf")
     for _ in range(RUNS):
         if os.path.isfile(copy):
             os.remove(copy)
         with open(out, "wb") as sink:
             start = time.perf_counter()
-            child = subprocess.Popen(command, stdout=sink, stderr=subprocess.DEVNULL)
-            _, status, usage = os.wait4(child.pid, 0)
+            status = subprocess.call(command, stdout=sink, stderr=subprocess.DEVNULL, env=env)
             best = min(best, time.perf_counter() - start)
         if status != 0:
             sys.exit(f"{command} ended with status {status}")
-        most = max(most, usage.ru_maxrss * 1024)
-    return best * 1000, most
+    return best * 1000
+
+
+def resident(command):
+    """The greatest resident set of a command, in bytes, by /usr/bin/time, or None where that is not there."""
+    if not os.path.exists(TIME):
+        return None
+    told = subprocess.run([TIME, "-f", "%M", *command], stdout=subprocess.DEVNULL, stderr=subprocess.PIPE, text=True)
+    return int(told.stderr.split()[-1]) * 1024
 
 
 def compare(program, path, copy):
     """Prints what the program takes on a file, and what plain tools take."""
     size = os.path.getsize(path)
-    cat, _ = measure(["cat", path], copy)
-    whole, _ = measure(["dd", f"if={path}", "of=/dev/null", "bs=64M"], copy)
-    cp, _ = measure(["cp", path, copy], copy)
+    cat = measure(["cat", path], copy)
+    whole = measure(["dd", f"if={path}", "of=/dev/null", "bs=64M"], copy)
+    cp = measure(["cp", path, copy], copy)
     print(f"  cat {cat:.0f} ms, dd bs=64M {whole:.0f} ms, cp {cp:.0f} ms")
-    check, memory = measure([program, "check", path], copy)
-    print(f"  check {check:.0f} ms: {check / cat:.1f} times cat, {check / whole:.1f} times dd bs=64M; memory {memory / size:.2f} times the file")
-    rebuild, memory = measure([program, "rebuild", path], copy, copy)
-    print(f"  rebuild {rebuild:.0f} ms: {rebuild / cp:.1f} times cp, {rebuild / whole:.1f} times dd bs=64M; memory {memory / size:.2f} times the file")
+    check = measure([program, "check", path], copy)
+    print(f"  check {check:.0f} ms: {check / cat:.1f} times cat, {check / cp:.1f} times cp")
+    rebuild = measure([program, "rebuild", path], copy, copy)
+    print(f"  rebuild {rebuild:.0f} ms: {rebuild / cp:.1f} times cp, {rebuild / (whole + cp):.1f} times dd and cp in sum")
+    large = measure([program, "rebuild", path], copy, copy, dict(os.environ, GLIBC_TUNABLES=LARGE_PAGES))
+    print(f"  rebuild with large pages {large:.0f} ms: {large / cp:.1f} times cp")
+    for word in ["check", "rebuild"]:
+        memory = resident([program, word, path])
+        if memory is not None:
+            print(f"  memory of {word}: {memory / 2**20:.1f} MiB, {memory / size:.2f} times the file")
 
 
 def main():
