@@ -1,6 +1,6 @@
 //! Capsules back to back.
 
-ghost use Rattle.std.specs.Prelude.{◌≡◌, ◌+◌, ◌<◌, ◌^◌, IfOk, IfErr};
+ghost use Rattle.std.specs.Prelude.{◌+◌, ◌<◌, ◌^◌, IfOk, IfErr};
 ghost use Rattle.capsule_grammar.specs.BackToBack.{SpellsAll, IsRefusalOfAll};
 ghost use Rattle.capsule_grammar.specs.Faults.{IsBehind, IsBelow};
 

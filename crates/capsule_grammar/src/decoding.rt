@@ -1,10 +1,8 @@
 //! Capsules that are read from bytes.
 
 ghost use Rattle.std.specs.Prelude.{◌≡◌, length, take, None, IfOk, IfErr};
-ghost use Rattle.fmp_headers.specs.CapsuleHeader.{image_size};
 ghost use Rattle.capsule_grammar.specs.Faults.{IsRefusal};
 ghost use Rattle.capsule_grammar.specs.Fits.{IsCapsule};
-ghost use Rattle.capsule_grammar.specs.Reading.{capsule_of};
 ghost use Rattle.capsule_grammar.specs.Refusals.{refusal};
 ghost use Rattle.capsule_grammar.specs.Spelling.{spelling};
 

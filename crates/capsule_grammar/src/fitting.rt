@@ -1,6 +1,6 @@
 //! Which capsules have a spelling that is read again.
 
-ghost use Rattle.std.specs.Prelude.{◌≡◌, ◌+◌, ◌-◌, length, min, take};
+ghost use Rattle.std.specs.Prelude.{◌≡◌, ◌+◌, ◌-◌, min};
 ghost use Rattle.std.specs.List.{list_all};
 ghost use Rattle.capsule_grammar.specs.Fits.{fits, fmp_fits, image_fits, is_nonempty};
 

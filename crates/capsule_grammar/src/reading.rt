@@ -4,9 +4,9 @@ ghost use Rattle.std.specs.Prelude.{◌≡◌, ◌+◌, ◌≤◌, ◌<◌, IfOk
 ghost use Rattle.std.specs.List.{range_with_len};
 ghost use Rattle.cu_base.specs.Fields.{field};
 ghost use Rattle.fmp_headers.specs.ImageHeader.{image_header_fields};
-ghost use Rattle.capsule_grammar.specs.Accepted.{AreBounds, IsImageItem, IsFmpBody, IsFront};
+ghost use Rattle.capsule_grammar.specs.Accepted.{IsImageItem, IsFmpBody, IsFront};
 ghost use Rattle.capsule_grammar.specs.Reading.{image_of, fmp_of, body_read, capsule_of};
-ghost use Rattle.capsule_grammar.specs.Refusals.{is_fmp_guid, body_of, driver_count, image_count, item_count, item, list_end};
+ghost use Rattle.capsule_grammar.specs.Refusals.{is_fmp_guid, body_of, driver_count, image_count, item};
 
 use crate::checking::{bound, item};
 use crate::header::is_fmp_guid;

@@ -25,7 +25,7 @@ pub fn check_file<I: Inputs>(alloc: Global, name: &Text, inputs: &mut I) -> Resu
 {
     match take_verdict(alloc, name, inputs) {
         Ok(Step::Goes(verdict)) => {
-            let answer = told(alloc, verdict)?;
+            let answer = answer_to(alloc, verdict)?;
             Ok(Found::bare(alloc, answer))
         }
         Ok(Step::Ends(answer)) => Ok(Found::bare(alloc, answer)),
@@ -55,7 +55,7 @@ pub fn rebuild_file<I: Inputs>(
 }
 
 /// What is told of a file, by the verdict on it.
-fn told(alloc: Global, verdict: Verdict) -> Result<Answer, NoMemory>
+fn answer_to(alloc: Global, verdict: Verdict) -> Result<Answer, NoMemory>
     ensures { IfOk result (λ answer. answer ≡ verdict_answer verdict) }
 {
     match verdict {
@@ -73,8 +73,8 @@ fn rebuild_bytes(alloc: Global, bytes: Blob) -> Result<Answer, NoMemory>
 {
     match judge(bytes.as_slice()) {
         Verdict::Whole(_) => rebuilt(alloc, bytes),
-        Verdict::Refused(refusal) => told(alloc, Verdict::Refused(refusal)),
-        Verdict::Trailing(at) => told(alloc, Verdict::Trailing(at)),
+        Verdict::Refused(refusal) => answer_to(alloc, Verdict::Refused(refusal)),
+        Verdict::Trailing(at) => answer_to(alloc, Verdict::Trailing(at)),
     }
 }
 

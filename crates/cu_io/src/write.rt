@@ -1,4 +1,4 @@
-ghost use Rattle.std.specs.Prelude.{ℕ, length, take, OnOk, ◌≤◌};
+ghost use Rattle.std.specs.Prelude.{OnOk};
 ghost use Rattle.std.specs.Io.KnownBytes.{Appends};
 ghost use Rattle.cu_base.specs.Causes.{HasCauseOf};
 ghost use Rattle.cu_io.specs.Streams.{AppendsFront};

@@ -1,5 +1,5 @@
 //! The inputs that the script names are read, one after the other.
-ghost use Rattle.std.specs.Prelude.{◌≡◌, ◌≤◌, ◌+◌, ◌++◌, ◌∷◌, [], ℕ, List, IsTrue, bytes_eq, length, map, IfOk, OnErr};
+ghost use Rattle.std.specs.Prelude.{◌≡◌, ◌≤◌, ◌+◌, ◌++◌, ◌∷◌, [], ℕ, List, IsTrue, bytes_eq, map, IfOk, OnErr};
 ghost use Rattle.std.specs.List.{list_all};
 ghost use Rattle.cu_io.specs.Named.{Named, LacksName};
 ghost use Rattle.reset_play.specs.declared.event.Event.{Event};

@@ -1,10 +1,10 @@
 //! The scan of the body of an FMP capsule.
 
-ghost use Rattle.std.specs.Prelude.{◌≡◌, ℕ, ◌+◌, ◌-◌, ◌^◌, ◌≤◌, ◌<◌, List, [], ◌++◌, length, min, None, Some, Err, IfOk, IfErr};
+ghost use Rattle.std.specs.Prelude.{◌≡◌, ℕ, ◌+◌, ◌-◌, ◌^◌, ◌≤◌, ◌<◌, List, [], length, None, Err, IfOk, IfErr};
 ghost use Rattle.cu_base.specs.Refusals.{first_refusal};
 ghost use Rattle.cu_io.specs.Streams.{Goes};
 ghost use Rattle.capsule_grammar.specs.Fronts.{Begins, ArePlaces};
-ghost use Rattle.capsule_grammar.specs.Refusals.{list_end, fmp_rows, fmp_header_rows, all_image_rows, image_rows};
+ghost use Rattle.capsule_grammar.specs.Refusals.{list_end, fmp_rows, fmp_header_rows, all_image_rows};
 ghost use Rattle.capsule_tool.specs.Scans.{Scans, ScansImage, IsStop};
 
 use super::stop::ScanStop;

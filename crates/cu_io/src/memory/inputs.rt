@@ -1,6 +1,6 @@
-ghost use Rattle.std.specs.Prelude.{◌≡◌, ℕ, ◌+◌, ◌-◌, ◌^◌, ◌≤◌, ◌∷◌, [], ◌++◌, ◌⊎◌, ◌↔◌, min, Contains, Some, IfOk, IsErrOf, OnOk, OnErr};
+ghost use Rattle.std.specs.Prelude.{◌≡◌, ◌+◌, ◌-◌, ◌^◌, ◌≤◌, ◌∷◌, [], ◌++◌, ◌⊎◌, min, Contains, Some, IfOk, IsErrOf, OnOk, OnErr};
 ghost use Rattle.cu_base.specs.Causes.{HasCauseOf};
-ghost use Rattle.cu_io.specs.Named.{LacksName, bytes_named, Opens, IsMissing};
+ghost use Rattle.cu_io.specs.Named.{LacksName, Opens, IsMissing};
 ghost use Rattle.cu_io.specs.Numbered.{one_more};
 
 use super::known::Known;

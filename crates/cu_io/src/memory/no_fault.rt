@@ -1,9 +1,9 @@
 //! The same without faults: their counts are the constant 0.
-ghost use Rattle.std.specs.Prelude.{◌≡◌, ℕ, ◌∷◌, [], ◌++◌, ◌⊎◌, ◌<◌, ◌^◌, ◌+◌, ◌-◌, ◌≤◌, min, length, take, drop, Some, IfOk, IsOk, IsErrOf, OnOk, OnErr};
+ghost use Rattle.std.specs.Prelude.{◌≡◌, ℕ, ◌∷◌, [], ◌++◌, ◌<◌, ◌+◌, ◌-◌, min, length, take, drop, Some, IfOk, IsOk, OnOk, OnErr};
 ghost use Rattle.std.specs.Io.{ReadsAtMost, WritesAtMost};
 ghost use Rattle.std.specs.Io.KnownBytes.{ReadConsumes, WriteAppends};
 ghost use Rattle.cu_base.specs.Causes.{HasCause, HasCauseOf};
-ghost use Rattle.cu_io.specs.Named.{LacksName, Opens, IsMissing};
+ghost use Rattle.cu_io.specs.Named.{LacksName};
 ghost use Rattle.cu_io.specs.Streams.{CountsTaken};
 
 use super::known::Known;

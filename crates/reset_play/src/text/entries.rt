@@ -1,6 +1,6 @@
 //! The lines of the events.
 
-ghost use Rattle.std.specs.Prelude.{◌≡◌, ◌∷◌, ◌++◌, map, length, IfOk, OnOk};
+ghost use Rattle.std.specs.Prelude.{◌≡◌, ◌++◌, map, IfOk, OnOk};
 ghost use Rattle.reset_play.specs.Texts.{answer_words, end_word, entries_text, event_line, event_word, lines_before, parts, trace_text};
 ghost use Rattle.reset_play.specs.Told.{told_of};
 

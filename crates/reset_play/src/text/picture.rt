@@ -1,6 +1,6 @@
 //! The lines of what the platform shows.
 
-ghost use Rattle.std.specs.Prelude.{◌≡◌, ◌∷◌, ◌++◌, flat_map, OnOk};
+ghost use Rattle.std.specs.Prelude.{◌≡◌, ◌++◌, flat_map, OnOk};
 ghost use Rattle.reset_play.specs.Texts.{esrt_text, result_text, fmp_words, last_text, file_text, parts, staged_text, picture_text};
 ghost use Rattle.reset_play.specs.Told.{picture_of};
 

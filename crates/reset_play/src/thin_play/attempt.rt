@@ -1,6 +1,6 @@
 //! The attempt of a thin file.
 
-ghost use Rattle.std.specs.Prelude.{◌≡◌, [], IfOk, IsTrue, ℕ, option_map, unwrap_or};
+ghost use Rattle.std.specs.Prelude.{◌≡◌, [], IfOk, IsTrue, option_map, unwrap_or};
 ghost use Rattle.reset_play.specs.Boots.{element_of};
 ghost use Rattle.reset_play.specs.Spent.Standing.{Open};
 ghost use Rattle.reset_play.specs.Thin.{thin, is_thin, thin_item, plain_parts};

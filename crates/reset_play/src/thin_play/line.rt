@@ -1,7 +1,7 @@
 //! The lines of a boot.
 
-ghost use Rattle.std.specs.Prelude.{◌≡◌, IfOk, Some, ℕ};
-ghost use Rattle.reset_play.specs.Results.{attempt_status, status_with, efi_status, efi_number_of, line_of, result_number};
+ghost use Rattle.std.specs.Prelude.{◌≡◌, IfOk, Some};
+ghost use Rattle.reset_play.specs.Results.{status_with, efi_status, efi_number_of, line_of, result_number};
 ghost use Rattle.reset_play.specs.declared.unit.Kind.TheVariants.{Try};
 
 use super::spent::{SpentTry, Standing};

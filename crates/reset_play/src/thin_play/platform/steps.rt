@@ -1,6 +1,6 @@
 //! The steps of a boot.
 
-ghost use Rattle.std.specs.Prelude.{◌≡◌, ◌≤◌, ◌+◌, ◌++◌, ◌∷◌, [], ◌^◌, IsTrue, not, ◌==◌, filter, find, None, IfOk, OnOk, OnErr, OnSome, IsSome};
+ghost use Rattle.std.specs.Prelude.{◌≡◌, ◌≤◌, ◌+◌, ◌∷◌, [], ◌^◌, IsTrue, not, ◌==◌, filter, find, None, OnOk, IsSome};
 ghost use Rattle.std.specs.List.{list_any};
 ghost use Rattle.reset_play.specs.Boots.{kept_with, with_element, with_claim, with_lines, one_step, next_line};
 ghost use Rattle.reset_play.specs.Boots.Work.{Settles, Removes, Clears};
