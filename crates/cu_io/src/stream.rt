@@ -94,7 +94,11 @@ impl<S: Source> Stream<S> {
         ensures taken { S.taken result ≡ self.taken }
         ensures faults { S.faults result ≡ self.faults }
     {
-        let Stream { source, room: _room, place: _place } = self;
+        let Stream {
+            source,
+            room: _room,
+            place: _place,
+        } = self;
         source
     }
 
