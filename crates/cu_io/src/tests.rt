@@ -1,3 +1,5 @@
+ghost use Rattle.std.specs.Prelude.{◌≡◌, IfOk};
+
 use super::*;
 use cu_base::{Blob, NoMemory, Numbers, Text};
 use std::process::Abort;
@@ -38,6 +40,89 @@ fn a_source_fails_at_the_numbered_reads(rt: HostRuntime) -> Result<(), Fail> {
     expect_read(&rt, b"abc", &[1], 3, Err(ReadFault::Read))?;
     expect_read(&rt, b"abc", &[2], 3, Err(ReadFault::Read))?;
     expect_read(&rt, b"abc", &[3], 3, Ok(b"abc".as_slice()))?;
+    Ok(())
+}
+
+/// The stream of a source in memory of these bytes.
+fn stream(rt: &impl AllocGlobal, bytes: &[u8], fails: &[u64]) -> Result<Stream<MemSource>, NoMemory>
+    ensures { IfOk result (λ stream. stream.place ≡ 0) }
+{
+    let source = source(rt, bytes, fails)?;
+    let room = Room::new(rt.alloc())?;
+    Ok(Stream::new(source, room))
+}
+
+/// Ends a stream, and compares how many bytes its source gave and how often it failed.
+fn expect_counts(rt: &impl Abort, stream: Stream<MemSource>, taken: u64, faults: u64) {
+    let source = stream.into_source();
+    assert_eq!(rt; source.taken(), taken);
+    assert_eq!(rt; source.faults(), faults);
+}
+
+#[test]
+fn a_stream_fills_and_passes_in_order(rt: HostRuntime) -> Result<(), Fail> {
+    let mut stream = stream(&rt, b"abcdef", &[])?;
+    let mut out = [b'.'; 2];
+    assert!(rt; stream.fill(&mut out).is_ok());
+    assert!(rt; out == *b"ab");
+    assert!(rt; stream.pass(2).is_ok());
+    assert_eq!(rt; stream.place(), 4);
+    assert!(rt; stream.fill(&mut out).is_ok());
+    assert!(rt; out == *b"ef");
+    expect_counts(&rt, stream, 6, 0);
+    Ok(())
+}
+
+#[test]
+fn a_stream_ends_within_a_fill(rt: HostRuntime) -> Result<(), Fail> {
+    let mut stream = stream(&rt, b"abc", &[])?;
+    let mut out = [b'.'; 5];
+    assert!(rt; stream.fill(&mut out) == Err(StreamFault::Ended));
+    assert!(rt; &out[..3] == b"abc".as_slice());
+    assert_eq!(rt; stream.place(), 3);
+    assert!(rt; stream.fill(&mut []).is_ok());
+    assert!(rt; stream.fill(&mut out) == Err(StreamFault::Ended));
+    expect_counts(&rt, stream, 3, 0);
+    Ok(())
+}
+
+#[test]
+fn a_stream_ends_within_a_pass(rt: HostRuntime) -> Result<(), Fail> {
+    let mut stream = stream(&rt, b"abc", &[])?;
+    assert!(rt; stream.pass(4) == Err(StreamFault::Ended));
+    assert_eq!(rt; stream.place(), 3);
+    assert!(rt; stream.pass(0).is_ok());
+    assert!(rt; stream.pass(1) == Err(StreamFault::Ended));
+    expect_counts(&rt, stream, 3, 0);
+    Ok(())
+}
+
+/// The first read fills, the second fails and takes nothing, and the third goes on.
+#[test]
+fn a_stream_goes_on_behind_a_failed_read(rt: HostRuntime) -> Result<(), Fail> {
+    let mut stream = stream(&rt, b"abcdef", &[2])?;
+    let mut out = [b'.'; 2];
+    assert!(rt; stream.fill(&mut out).is_ok());
+    assert!(rt; stream.pass(2) == Err(StreamFault::Failed));
+    assert_eq!(rt; stream.place(), 2);
+    assert!(rt; stream.fill(&mut out).is_ok());
+    assert!(rt; out == *b"cd");
+    expect_counts(&rt, stream, 4, 1);
+    Ok(())
+}
+
+/// A pass of one byte more than one read takes, and a fill of more than is left: the second read fails.
+#[test]
+fn a_stream_fails_within_a_call(rt: HostRuntime) -> Result<(), Fail> {
+    let mut passing = stream(&rt, &[0; 65_537], &[2])?;
+    assert!(rt; passing.pass(65_537) == Err(StreamFault::Failed));
+    assert_eq!(rt; passing.place(), 65_536);
+    assert!(rt; passing.pass(1).is_ok());
+    expect_counts(&rt, passing, 65_537, 1);
+    let mut filling = stream(&rt, b"abc", &[2])?;
+    assert!(rt; filling.fill(&mut [0; 5]) == Err(StreamFault::Failed));
+    assert_eq!(rt; filling.place(), 3);
+    expect_counts(&rt, filling, 3, 1);
     Ok(())
 }
 
