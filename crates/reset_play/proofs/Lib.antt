@@ -1,5 +1,7 @@
 pub mod Apart
 pub mod Ending
+pub mod Filing
+pub mod FilingWork
 pub mod Finishing
 pub mod Floors
 pub mod FolderLemmas
@@ -20,6 +22,7 @@ pub mod SampleTexts
 pub mod ScriptLemmas
 pub mod ScriptNames
 pub mod ScriptSpelled
+pub mod SpentFiles
 pub mod SpentLemmas
 pub mod TextLemmas
 pub mod ThinLemmas

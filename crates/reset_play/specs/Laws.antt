@@ -1,6 +1,6 @@
 -- What holds of every machine that is reached from a fresh board, whatever is delivered and whatever fails.
-use Rattle.std.specs.Prelude.{◌≡◌, ◌≢◌, ℕ, ◌≤◌, Bool, false, ◌==◌, List, [], ◌∷◌, ◌++◌, IsTrue, length, filter}
-use Rattle.std.specs.List.{AllByRecursion}
+use Rattle.std.specs.Prelude.{◌≡◌, ◌≢◌, ℕ, ◌<◌, ◌≤◌, Bool, false, ◌==◌, List, [], ◌∷◌, ◌++◌, IsTrue, length, filter}
+use Rattle.std.specs.List.{AllByRecursion, list_any}
 use Rattle.reset_play.specs.declared.trace.BootEnd.{BootEnd}
 use Rattle.reset_play.specs.declared.trace.BootEnd.TheVariants as ends
 use Rattle.reset_play.specs.declared.unit.End.{End}
@@ -11,7 +11,7 @@ use Rattle.reset_play.specs.Events.{Act, Run}
 use Rattle.reset_play.specs.Formats.{Formats}
 use Rattle.reset_play.specs.Machine.{File, Machine, fresh}
 use Rattle.reset_play.specs.Names.{is_same_name}
-use Rattle.reset_play.specs.Spent.{Element, is_open, is_attempt, floor_of, is_of}
+use Rattle.reset_play.specs.Spent.{Element, is_open, is_attempt, floor_of, is_of, spent}
 use Rattle.reset_play.specs.Told.{Told, Said}
 use Rattle.reset_play.specs.Told.Told.{Done, Serial, FlashFault, VolumeFault, NoBank, Full, Wraps, Invalid, Unsupported, Resources, Booted, Shown}
 
@@ -95,3 +95,7 @@ StandInOrder list =
 -- no key stands twice
 abbrev pub HaveDistinctKeys : List Element → Type 0
 HaveDistinctKeys list = (before between rest : List Element) (a b : Element) → list ≡ before ++ a ∷ (between ++ b ∷ rest) → a.key ≢ b.key
+
+-- a file of which units are spent has its serial in kept
+abbrev pub SpentFilesAreKept : Machine → Type 0
+SpentFilesAreKept m = AllByRecursion (λ x. 0 < spent m.list x.serial → IsTrue (list_any (λ s. s == x.serial) m.kept)) m.files

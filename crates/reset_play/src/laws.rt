@@ -5,7 +5,7 @@ ghost use Rattle.std.specs.Prelude.{◌≡◌, ◌≤◌, ℕ, List, ◌++◌};
 ghost use Rattle.bench_model.specs.Boards.{BoardValue};
 ghost use Rattle.reset_play.specs.Events.{Act, Run, trace_of, machine_after};
 ghost use Rattle.reset_play.specs.Formats.{Formats};
-ghost use Rattle.reset_play.specs.Laws.{IsReached, OpenIsLast, AttemptsReachFloor, AreApart, StandInOrder, HaveDistinctKeys, TellNoFault};
+ghost use Rattle.reset_play.specs.Laws.{IsReached, OpenIsLast, AttemptsReachFloor, AreApart, StandInOrder, HaveDistinctKeys, SpentFilesAreKept, TellNoFault};
 ghost use Rattle.reset_play.specs.Machine.{Machine, fresh};
 ghost use Rattle.reset_play.specs.Samples.{sample_text, text_of, redelivery, lower_version, refusals, wrapping, redelivery_lines, lower_version_lines, refusals_lines, wrapping_lines};
 ghost use Rattle.reset_play.specs.Spent.{Element, floor_of};
@@ -36,6 +36,11 @@ pub fn deliveries_are_apart()
 pub fn units_stand_in_order()
     ensures order { (f : Formats) (board : BoardValue) (m : Machine) → IsReached f board m → StandInOrder m.list }
     ensures keys { (f : Formats) (board : BoardValue) (m : Machine) → IsReached f board m → HaveDistinctKeys m.list }
+{}
+
+/// A file of which units are spent has its serial in `kept`.
+pub fn spent_files_are_kept()
+    ensures { (f : Formats) (board : BoardValue) (m : Machine) → IsReached f board m → SpentFilesAreKept m }
 {}
 
 /// Events that tell no fault tell one trace and leave one machine, and there is such a run of any events.
