@@ -52,7 +52,7 @@ all_more P [] y all h = (h, tt)
 all_more P (x ∷ xs) y all h = (all.0, all_more P xs y all.1 h)
 
 -- one more item that is the same as none before
-distinct_more : {X : Type 0} (same : X → X → Bool) (xs : List X) (y : X) → Distinct same xs → AllByRecursion (λ x. same x y ≡ false) xs → Distinct same (xs ++ y ∷ [])
+pub distinct_more : {X : Type 0} (same : X → X → Bool) (xs : List X) (y : X) → Distinct same xs → AllByRecursion (λ x. same x y ≡ false) xs → Distinct same (xs ++ y ∷ [])
 distinct_more same [] y d all = (tt, tt)
 distinct_more same (x ∷ xs) y d all = (all_more (λ z. same x z ≡ false) xs y d.0 all.0, distinct_more same xs y d.1 all.1)
 

@@ -1,4 +1,5 @@
 pub mod Apart
+pub mod Bounds
 pub mod Ending
 pub mod Filing
 pub mod FilingWork
@@ -11,6 +12,7 @@ pub mod Held
 pub mod Keeping
 pub mod Keyed
 pub mod Keys
+pub mod KeptLemmas
 pub mod Lists
 pub mod Once
 pub mod OneUnit

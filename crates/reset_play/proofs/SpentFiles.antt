@@ -149,7 +149,7 @@ serials_below : (last : ℕ) (xs : List File) → AllByRecursion (λ (x : File).
 serials_below last [] all = tt
 serials_below last (x ∷ xs) all = (all.0, serials_below last xs all.1)
 
-settled_files : (m : Machine) (end : End) (o : Option Element) → (settled_with m end o).files ≡ m.files
+pub settled_files : (m : Machine) (end : End) (o : Option Element) → (settled_with m end o).files ≡ m.files
 settled_files m end None = refl
 settled_files m end (Some e) = refl
 

@@ -5,7 +5,7 @@ ghost use Rattle.std.specs.Prelude.{◌≡◌, ◌≤◌, ℕ, List, ◌++◌};
 ghost use Rattle.bench_model.specs.Boards.{BoardValue};
 ghost use Rattle.reset_play.specs.Events.{Act, Run, trace_of, machine_after};
 ghost use Rattle.reset_play.specs.Formats.{Formats};
-ghost use Rattle.reset_play.specs.Laws.{IsReached, OpenIsLast, AttemptsReachFloor, AreApart, StandInOrder, HaveDistinctKeys, SpentFilesAreKept, TellNoFault};
+ghost use Rattle.reset_play.specs.Laws.{IsReached, OpenIsLast, AttemptsReachFloor, AreApart, StandInOrder, HaveDistinctKeys, SpentFilesAreKept, IsWithinLimits, SerialsAreGiven, TellNoFault};
 ghost use Rattle.reset_play.specs.Machine.{Machine, fresh};
 ghost use Rattle.reset_play.specs.Samples.{sample_text, text_of, redelivery, lower_version, refusals, wrapping, redelivery_lines, lower_version_lines, refusals_lines, wrapping_lines};
 ghost use Rattle.reset_play.specs.Spent.{Element, floor_of};
@@ -41,6 +41,13 @@ pub fn units_stand_in_order()
 /// A file of which units are spent has its serial in `kept`.
 pub fn spent_files_are_kept()
     ensures { (f : Formats) (board : BoardValue) (m : Machine) → IsReached f board m → SpentFilesAreKept m }
+{}
+
+/// Files, staged deliveries and the serials in `kept` are within their limits. The serials of spent units and those in `kept`
+/// are at most the last ones, and a staged delivery has no spent unit.
+pub fn limits_are_kept()
+    ensures limits { (f : Formats) (board : BoardValue) (m : Machine) → IsReached f board m → IsWithinLimits m }
+    ensures serials { (f : Formats) (board : BoardValue) (m : Machine) → IsReached f board m → SerialsAreGiven m }
 {}
 
 /// Events that tell no fault tell one trace and leave one machine, and there is such a run of any events.
