@@ -18,7 +18,7 @@ has ns n = list_any (λ s. s == n) ns
 abbrev pub serials_of : List File → List ℕ
 serials_of files = map (λ x. x.serial) files
 
-same_of : (m n : ℕ) → (m == n) ≡ true → m ≡ n
+pub same_of : (m n : ℕ) → (m == n) ≡ true → m ≡ n
 same_of m n h = grind (arith, nat_tests)
 
 pub same : (n : ℕ) → (n == n) ≡ true

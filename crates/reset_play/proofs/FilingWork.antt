@@ -10,7 +10,7 @@ use Rattle.reset_play.specs.Machine.{File, Machine}
 use Rattle.reset_play.specs.Names.{is_taken_before}
 use Rattle.reset_play.specs.Order.{inserted, in_order}
 use Rattle.reset_play.specs.Spent.{spent}
-use Rattle.reset_play.proofs.Apart.{all_kept, all_imply, kept_pass}
+use Rattle.reset_play.proofs.Apart.{all_both, all_kept, all_imply, kept_pass}
 use Rattle.reset_play.proofs.Filing.{has, serials_of, or_right, same, Known, known_append, known_units, Empties, empties_does}
 use Rattle.reset_play.proofs.Keys.{Numbered, all_numbered, rest_numbered}
 use Rattle.reset_play.proofs.Ordered.{all_ordered}
@@ -90,10 +90,6 @@ empties_files f m (x ∷ xs) files rest all e =
     (λ y h k. others (x.serial == y.serial) (y.serial == x.serial) (has (serials_of xs) y.serial) (turned x.serial y.serial) h k)
     (filter keep files) (all_kept (λ (y : File). has (serials_of (x ∷ xs)) y.serial ≡ true) keep files all) (kept_pass keep files) in
     subst (Empties files) (sym split) (empties_does us files (Removes x.serial ∷ (flat_map (file_work f m) xs ++ rest)) (empties_files f m xs (filter keep files) rest still e))
-  where
-    all_both : (P Q R : File → Type 0) → ((y : File) → P y → Q y → R y) → (ys : List File) → AllByRecursion P ys → AllByRecursion Q ys → AllByRecursion R ys
-    all_both P Q R h [] p q = tt
-    all_both P Q R h (y ∷ ys) p q = (h y p.0 q.0, all_both P Q R h ys p.1 q.1)
 
 -- the work on the folder
 known_prune : (m : Machine) (last : ℕ) (serials : List ℕ) → Known last serials (prune_work m)

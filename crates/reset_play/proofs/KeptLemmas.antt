@@ -1,7 +1,6 @@
 -- The serials in kept: none twice, and few, since the work on a folder begins with those of its files alone.
 use Rattle.std.proofs.Common.{◌≡◌, ℕ, ◌+◌, ◌≤◌, inl, inr, Bool, true, false, cond, not, ◌||◌, ◌==◌, List, [], ◌∷◌, ◌++◌, length, map, filter, flat_map, refl, arith, sym, ap, ◌∙◌, subst, append_assoc, option_and_then}
 use Rattle.std.specs.List.{AllByRecursion, list_any}
-use Rattle.std.proofs.lemmas.Bool.Decides.{nat_tests}
 use Rattle.reset_play.specs.declared.limits.TheConstants.{MAX_FILES}
 use Rattle.reset_play.specs.declared.snapshot.StagedPair.{StagedPair}
 use Rattle.reset_play.specs.declared.unit.UnitKey.{UnitKey}
@@ -11,8 +10,8 @@ use Rattle.reset_play.specs.Deliveries.{BootUnit, pieces, units}
 use Rattle.reset_play.specs.Formats.{Formats}
 use Rattle.reset_play.specs.Laws.{Distinct}
 use Rattle.reset_play.specs.Machine.{File, Machine}
-use Rattle.reset_play.proofs.Apart.{all_kept, all_imply, all_more, distinct_kept, distinct_more, kept_pass}
-use Rattle.reset_play.proofs.Filing.{has, has_all, has_filter, IsKnown}
+use Rattle.reset_play.proofs.Apart.{all_both, all_kept, all_imply, all_more, distinct_kept, distinct_more, kept_pass}
+use Rattle.reset_play.proofs.Filing.{has, same_of, has_all, has_filter, IsKnown}
 use Rattle.reset_play.proofs.Keys.{Numbered, all_numbered}
 use Rattle.reset_play.proofs.Ordered.{turned}
 
@@ -42,10 +41,6 @@ filter_fewer {X} p (x ∷ xs) h =
       | true ↦ λ later k. omega arith
       | false ↦ λ later k. let e : length (filter (λ y. not (p y)) xs) + 1 ≤ length xs = later k in omega arith
     ] (filter_fewer p xs) h
-
-all_both : (P Q R : ℕ → Type 0) → ((y : ℕ) → P y → Q y → R y) → (ys : List ℕ) → AllByRecursion P ys → AllByRecursion Q ys → AllByRecursion R ys
-all_both P Q R h [] p q = tt
-all_both P Q R h (y ∷ ys) p q = (h y p.0 q.0, all_both P Q R h ys p.1 q.1)
 
 -- numbers of a list, none twice, are at most as many
 pub once_most : (serials ns : List ℕ) → Once ns → AllIn serials ns → length ns ≤ length serials
@@ -146,11 +141,8 @@ pub file_in : (serials : List ℕ) (files : List File) (s : ℕ) → AllByRecurs
 file_in serials [] s all h = cc
 file_in serials (x ∷ xs) s all h = by_test (x.serial == s) refl (file_in serials xs s all.1) h
   where
-    same_number : (a b : ℕ) → (a == b) ≡ true → a ≡ b
-    same_number a b e = grind (arith, nat_tests)
-
     by_test : (b : Bool) → (x.serial == s) ≡ b → (is_file xs s ≡ true → has serials s ≡ true) → (b || is_file xs s) ≡ true → has serials s ≡ true
-    by_test true e later t = ap (has serials) (sym (same_number x.serial s e)) ∙ all.0
+    by_test true e later t = ap (has serials) (sym (same_of x.serial s e)) ∙ all.0
     by_test false e later t = later t
 
 all_files : (files : List File) (ns : List ℕ) → list_any (λ s. not (is_file files s)) ns ≡ false → AllByRecursion (λ s. is_file files s ≡ true) ns

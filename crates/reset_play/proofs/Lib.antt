@@ -24,6 +24,7 @@ pub mod SampleTexts
 pub mod ScriptLemmas
 pub mod ScriptNames
 pub mod ScriptSpelled
+pub mod Short
 pub mod SpentFiles
 pub mod SpentLemmas
 pub mod TextLemmas

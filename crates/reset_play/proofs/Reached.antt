@@ -1,9 +1,9 @@
 -- The laws of every machine that is reached.
-use Rattle.std.proofs.Common.{◌≡◌, inl, inr, List, arith, refl, sym, subst}
-use Rattle.bench_model.specs.Boards.{BoardValue}
+use Rattle.std.proofs.Common.{◌≡◌, ◌<◌, ◌≤◌, ◌^◌, ℕ, inl, inr, List, length, arith, refl, sym, ap, ◌∙◌, subst}
+use Rattle.bench_model.specs.Boards.{BoardValue, IsBoard}
 use Rattle.reset_play.specs.Boots.{boot_at}
 use Rattle.reset_play.specs.Formats.{Formats}
-use Rattle.reset_play.specs.Laws.{IsReached, OpenIsLast, AttemptsReachFloor, AreApart, StandInOrder, HaveDistinctKeys, SpentFilesAreKept, IsWithinLimits, SerialsAreGiven, TellNoFault}
+use Rattle.reset_play.specs.Laws.{IsReached, OpenIsLast, AttemptsReachFloor, AreApart, StandInOrder, HaveDistinctKeys, SpentFilesAreKept, IsWithinLimits, SerialsAreGiven, KeepsLimits, TellNoFault}
 use Rattle.reset_play.specs.Events.{Act, Run, trace_of, machine_after}
 use Rattle.reset_play.specs.Told.{Said}
 use Rattle.reset_play.specs.Machine.{Machine, fresh}
@@ -15,6 +15,8 @@ use Rattle.reset_play.proofs.Keeping.{Keeps, run_keeps}
 use Rattle.reset_play.proofs.Keyed.{Orderly, orderly_keeps, boot_orderly}
 use Rattle.reset_play.proofs.Keys.{in_order, distinct_keys}
 use Rattle.reset_play.proofs.Lists.{rests_last, pends_last, reach_floor}
+use Rattle.reset_play.proofs.Short.{board_keeps, boot_board, boot_short}
+use Rattle.reset_play.specs.declared.unit.End.{End}
 
 sound_keeps : (f : Formats) → Keeps f Sound
 sound_keeps f = record {
@@ -107,3 +109,13 @@ within f board m r = within_limits m (limited f board m r)
 
 pub given : (f : Formats) (board : BoardValue) (m : Machine) → IsReached f board m → SerialsAreGiven m
 given f board m r = serials_given m (limited f board m r) (orderly f board m r).keyed
+
+-- a boot of a reached machine is short
+same_board : (f : Formats) (board : BoardValue) (m : Machine) → IsReached f board m → m.board ≡ board
+same_board f board m r =
+    let between : r.between.board ≡ board = run_keeps f (λ (x : Machine). x.board ≡ board) (board_keeps f board) (fresh board) r.acts r.told r.between refl r.run in
+    ap (λ (x : Machine). x.board) r.reached ∙ (boot_board f r.between r.end r.steps ∙ between)
+
+pub short : (f : Formats) (board : BoardValue) (m : Machine) → KeepsLimits f → IsBoard board → IsReached f board m → (h : End) (j : ℕ) → (boot_at f m h j).report.steps < 2 ^ 20
+short f board m limits is r h j =
+    boot_short f limits m h j (subst (λ (b : BoardValue). length b.devices ≤ 8) (sym (same_board f board m r)) is.devices) (within f board m r)

@@ -16,7 +16,7 @@ use Rattle.reset_play.specs.Machine.{Machine, File}
 use Rattle.reset_play.specs.Names.{is_same_name}
 use Rattle.reset_play.specs.Spent.{Element, is_of, is_open, is_closed, spent}
 use Rattle.reset_play.specs.Spent.Standing.{Open, Closed}
-use Rattle.reset_play.proofs.Apart.{all_kept, all_imply, all_more, boot_apart, apart_keeps}
+use Rattle.reset_play.proofs.Apart.{all_both, all_kept, all_imply, all_more, boot_apart, apart_keeps}
 use Rattle.reset_play.proofs.Filing.{has, serials_of, has_all, has_filter, or_right, same, IsKept, kept_more, kept_front, kept_open, IsKnown, Known, Empties}
 use Rattle.reset_play.proofs.FilingWork.{has_each, known_work, empties_work}
 use Rattle.reset_play.proofs.Going.{Going, Sound, sound_of, boot_going, steps_going, start_going}
@@ -96,10 +96,6 @@ there_each (x ∷ xs) = (
   ap (λ b. b || is_file xs x.serial) (same x.serial),
   all_imply (λ (y : File). is_file xs y.serial ≡ true) (λ (y : File). is_file (x ∷ xs) y.serial ≡ true) (λ y h. or_right (x.serial == y.serial) (is_file xs y.serial) h) xs (there_each xs),
 )
-
-all_both : (P Q R : File → Type 0) → ((y : File) → P y → Q y → R y) → (ys : List File) → AllByRecursion P ys → AllByRecursion Q ys → AllByRecursion R ys
-all_both P Q R h [] p q = tt
-all_both P Q R h (y ∷ ys) p q = (h y p.0 q.0, all_both P Q R h ys p.1 q.1)
 
 no_files : (P : File → Type 0) (files : List File) → files ≡ [] → AllByRecursion P files
 no_files P files e = subst (AllByRecursion P) (sym e) tt

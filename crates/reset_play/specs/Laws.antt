@@ -10,7 +10,7 @@ use Rattle.reset_play.specs.declared.unit.UnitKey.{UnitKey}
 use Rattle.bench_model.specs.Boards.{BoardValue}
 use Rattle.reset_play.specs.Boots.{boot_at, kept_with}
 use Rattle.reset_play.specs.Events.{Act, Run}
-use Rattle.reset_play.specs.Formats.{Formats}
+use Rattle.reset_play.specs.Formats.{Capsule, Formats}
 use Rattle.reset_play.specs.Machine.{File, Machine, fresh}
 use Rattle.reset_play.specs.Names.{is_same_name}
 use Rattle.reset_play.specs.Spent.{Element, is_open, is_attempt, floor_of, is_of, spent}
@@ -124,3 +124,8 @@ pub record SerialsAreGiven (m : Machine) : Type 0 where
   pub elements : AllByRecursion (λ e. IsGiven m e.key) m.list
   pub kept : AllByRecursion (λ s. s ≤ m.last_file) m.kept
   pub staged : AllByRecursion (λ p. list_any (λ e. is_of 0 p.serial e.key) m.list ≡ false) m.staged
+
+-- a delivery holds at most 8 capsules. Of items and devices nothing needs to be said: a capsule of more than 16 items is
+-- passed over, and a board has at most 8 devices.
+pub record KeepsLimits (f : Formats) : Type 0 where
+  pub capsules : (bytes : List ℕ) (found : List Capsule) → f.capsules bytes ≡ Some found → length found ≤ 8
