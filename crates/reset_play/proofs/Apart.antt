@@ -47,12 +47,16 @@ pub all_imply : {X : Type 0} (P Q : X → Type 0) → ((x : X) → P x → Q x) 
 all_imply P Q h [] all = tt
 all_imply P Q h (x ∷ xs) all = (h x all.0, all_imply P Q h xs all.1)
 
+pub all_both : {X : Type 0} (P Q R : X → Type 0) → ((x : X) → P x → Q x → R x) → (xs : List X) → AllByRecursion P xs → AllByRecursion Q xs → AllByRecursion R xs
+all_both P Q R h [] p q = tt
+all_both P Q R h (x ∷ xs) p q = (h x p.0 q.0, all_both P Q R h xs p.1 q.1)
+
 pub all_more : {X : Type 0} (P : X → Type 0) (xs : List X) (y : X) → AllByRecursion P xs → P y → AllByRecursion P (xs ++ y ∷ [])
 all_more P [] y all h = (h, tt)
 all_more P (x ∷ xs) y all h = (all.0, all_more P xs y all.1 h)
 
 -- one more item that is the same as none before
-distinct_more : {X : Type 0} (same : X → X → Bool) (xs : List X) (y : X) → Distinct same xs → AllByRecursion (λ x. same x y ≡ false) xs → Distinct same (xs ++ y ∷ [])
+pub distinct_more : {X : Type 0} (same : X → X → Bool) (xs : List X) (y : X) → Distinct same xs → AllByRecursion (λ x. same x y ≡ false) xs → Distinct same (xs ++ y ∷ [])
 distinct_more same [] y d all = (tt, tt)
 distinct_more same (x ∷ xs) y d all = (all_more (λ z. same x z ≡ false) xs y d.0 all.0, distinct_more same xs y d.1 all.1)
 

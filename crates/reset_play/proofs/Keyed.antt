@@ -57,7 +57,7 @@ settled_keys : (m : Machine) (end : End) (o : Option Element) → keys_of (settl
 settled_keys m end None = refl
 settled_keys m end (Some e) = keys_closed end m.now m.list
 
-settled_staged : (m : Machine) (end : End) (o : Option Element) → (settled_with m end o).staged ≡ m.staged
+pub settled_staged : (m : Machine) (end : End) (o : Option Element) → (settled_with m end o).staged ≡ m.staged
 settled_staged m end None = refl
 settled_staged m end (Some e) = refl
 

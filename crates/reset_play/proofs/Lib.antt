@@ -1,5 +1,8 @@
 pub mod Apart
+pub mod Bounds
 pub mod Ending
+pub mod Filing
+pub mod FilingWork
 pub mod Finishing
 pub mod Floors
 pub mod FolderLemmas
@@ -9,6 +12,7 @@ pub mod Held
 pub mod Keeping
 pub mod Keyed
 pub mod Keys
+pub mod KeptLemmas
 pub mod Lists
 pub mod Once
 pub mod OneUnit
@@ -20,6 +24,8 @@ pub mod SampleTexts
 pub mod ScriptLemmas
 pub mod ScriptNames
 pub mod ScriptSpelled
+pub mod Short
+pub mod SpentFiles
 pub mod SpentLemmas
 pub mod TextLemmas
 pub mod ThinLemmas

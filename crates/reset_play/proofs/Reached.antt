@@ -1,19 +1,22 @@
 -- The laws of every machine that is reached.
-use Rattle.std.proofs.Common.{◌≡◌, inl, inr, List, refl, sym, subst}
-use Rattle.bench_model.specs.Boards.{BoardValue}
+use Rattle.std.proofs.Common.{◌≡◌, ◌<◌, ◌≤◌, ◌^◌, ℕ, inl, inr, List, length, arith, refl, sym, ap, ◌∙◌, subst}
+use Rattle.bench_model.specs.Boards.{BoardValue, IsBoard}
 use Rattle.reset_play.specs.Boots.{boot_at}
 use Rattle.reset_play.specs.Formats.{Formats}
-use Rattle.reset_play.specs.Laws.{IsReached, OpenIsLast, AttemptsReachFloor, AreApart, StandInOrder, HaveDistinctKeys, TellNoFault}
+use Rattle.reset_play.specs.Laws.{IsReached, OpenIsLast, AttemptsReachFloor, AreApart, StandInOrder, HaveDistinctKeys, SpentFilesAreKept, IsWithinLimits, SerialsAreGiven, KeepsLimits, TellNoFault}
 use Rattle.reset_play.specs.Events.{Act, Run, trace_of, machine_after}
 use Rattle.reset_play.specs.Told.{Said}
 use Rattle.reset_play.specs.Machine.{Machine, fresh}
 use Rattle.reset_play.proofs.Apart.{apart_keeps, boot_apart}
+use Rattle.reset_play.proofs.Bounds.{Limited, limited_keeps, boot_limited, within_limits, serials_given}
 use Rattle.reset_play.proofs.Once.{Quiet, run_once, run_is}
 use Rattle.reset_play.proofs.Going.{Sound, sound_of, boot_going}
 use Rattle.reset_play.proofs.Keeping.{Keeps, run_keeps}
 use Rattle.reset_play.proofs.Keyed.{Orderly, orderly_keeps, boot_orderly}
 use Rattle.reset_play.proofs.Keys.{in_order, distinct_keys}
 use Rattle.reset_play.proofs.Lists.{rests_last, pends_last, reach_floor}
+use Rattle.reset_play.proofs.Short.{board_keeps, boot_board, boot_short}
+use Rattle.reset_play.specs.declared.unit.End.{End}
 
 sound_keeps : (f : Formats) → Keeps f Sound
 sound_keeps f = record {
@@ -80,3 +83,39 @@ stand_in_order f board m r = in_order m.list (orderly f board m r).keyed.gapless
 
 pub keys_apart : (f : Formats) (board : BoardValue) (m : Machine) → IsReached f board m → HaveDistinctKeys m.list
 keys_apart f board m r = distinct_keys m.list (orderly f board m r).keyed.gapless
+
+-- files, staged deliveries and kept serials are within their limits
+pub limited : (f : Formats) (board : BoardValue) (m : Machine) → IsReached f board m → Limited m
+limited f board m r =
+    let start : Limited (fresh board) = record {
+      filed = record {
+        sound = inl (record { none = tt; above = tt });
+        apart = record { names = tt; files = tt; last_file = tt; staged = tt; last_staged = tt };
+        spends = tt;
+        given = tt;
+      };
+      files = omega arith;
+      staged = omega arith;
+      kept = record { once = tt; few = omega arith; below = tt; ready = tt };
+    } in
+    let between : Limited r.between = run_keeps f Limited (limited_keeps f) (fresh board) r.acts r.told r.between start r.run in
+    subst Limited (sym r.reached) (boot_limited f r.between r.end r.steps r.held between)
+
+pub spends : (f : Formats) (board : BoardValue) (m : Machine) → IsReached f board m → SpentFilesAreKept m
+spends f board m r = (limited f board m r).filed.spends
+
+pub within : (f : Formats) (board : BoardValue) (m : Machine) → IsReached f board m → IsWithinLimits m
+within f board m r = within_limits m (limited f board m r)
+
+pub given : (f : Formats) (board : BoardValue) (m : Machine) → IsReached f board m → SerialsAreGiven m
+given f board m r = serials_given m (limited f board m r) (orderly f board m r).keyed
+
+-- a boot of a reached machine is short
+same_board : (f : Formats) (board : BoardValue) (m : Machine) → IsReached f board m → m.board ≡ board
+same_board f board m r =
+    let between : r.between.board ≡ board = run_keeps f (λ (x : Machine). x.board ≡ board) (board_keeps f board) (fresh board) r.acts r.told r.between refl r.run in
+    ap (λ (x : Machine). x.board) r.reached ∙ (boot_board f r.between r.end r.steps ∙ between)
+
+pub short : (f : Formats) (board : BoardValue) (m : Machine) → KeepsLimits f → IsBoard board → IsReached f board m → (h : End) (j : ℕ) → (boot_at f m h j).report.steps < 2 ^ 20
+short f board m limits is r h j =
+    boot_short f limits m h j (subst (λ (b : BoardValue). length b.devices ≤ 8) (sym (same_board f board m r)) is.devices) (within f board m r)

@@ -1,17 +1,19 @@
 -- What holds of every machine that is reached from a fresh board, whatever is delivered and whatever fails.
-use Rattle.std.specs.Prelude.{◌≡◌, ◌≢◌, ℕ, ◌≤◌, Bool, false, ◌==◌, List, [], ◌∷◌, ◌++◌, IsTrue, length, filter}
-use Rattle.std.specs.List.{AllByRecursion}
+use Rattle.std.specs.Prelude.{◌≡◌, ◌≢◌, ◌⊎◌, ℕ, ◌<◌, ◌≤◌, Bool, false, ◌==◌, List, [], ◌∷◌, ◌++◌, IsTrue, length, filter, find, Option, None, Some}
+use Rattle.std.specs.List.{AllByRecursion, list_any}
+use Rattle.reset_play.specs.declared.limits.TheConstants.{MAX_FILES, MAX_STAGED}
 use Rattle.reset_play.specs.declared.trace.BootEnd.{BootEnd}
 use Rattle.reset_play.specs.declared.trace.BootEnd.TheVariants as ends
 use Rattle.reset_play.specs.declared.unit.End.{End}
 use Rattle.reset_play.specs.declared.unit.End.TheVariants.{Refused, Sealed, Kept, Lost}
+use Rattle.reset_play.specs.declared.unit.UnitKey.{UnitKey}
 use Rattle.bench_model.specs.Boards.{BoardValue}
-use Rattle.reset_play.specs.Boots.{boot_at}
+use Rattle.reset_play.specs.Boots.{boot_at, kept_with}
 use Rattle.reset_play.specs.Events.{Act, Run}
-use Rattle.reset_play.specs.Formats.{Formats}
+use Rattle.reset_play.specs.Formats.{Capsule, Formats}
 use Rattle.reset_play.specs.Machine.{File, Machine, fresh}
 use Rattle.reset_play.specs.Names.{is_same_name}
-use Rattle.reset_play.specs.Spent.{Element, is_open, is_attempt, floor_of, is_of}
+use Rattle.reset_play.specs.Spent.{Element, is_open, is_attempt, floor_of, is_of, spent}
 use Rattle.reset_play.specs.Told.{Told, Said}
 use Rattle.reset_play.specs.Told.Told.{Done, Serial, FlashFault, VolumeFault, NoBank, Full, Wraps, Invalid, Unsupported, Resources, Booted, Shown}
 
@@ -95,3 +97,35 @@ StandInOrder list =
 -- no key stands twice
 abbrev pub HaveDistinctKeys : List Element → Type 0
 HaveDistinctKeys list = (before between rest : List Element) (a b : Element) → list ≡ before ++ a ∷ (between ++ b ∷ rest) → a.key ≢ b.key
+
+-- a file of which units are spent has its serial in kept
+abbrev pub SpentFilesAreKept : Machine → Type 0
+SpentFilesAreKept m = AllByRecursion (λ x. 0 < spent m.list x.serial → IsTrue (list_any (λ s. s == x.serial) m.kept)) m.files
+
+-- the serials in kept, with that of an open element on a file
+abbrev pub kept_with_open : List ℕ → Option Element → List ℕ
+kept_with_open kept None = kept
+kept_with_open kept (Some e) = kept_with kept e.key
+
+-- files and staged deliveries are within their limits, and so are the serials in kept, with that of an open element on a
+-- file: there are at most as many as there may be files
+pub record IsWithinLimits (m : Machine) : Type 0 where
+  pub files : length m.files ≤ MAX_FILES
+  pub staged : length m.staged ≤ MAX_STAGED
+  pub kept : length (kept_with_open m.kept (find is_open m.list)) ≤ MAX_FILES
+
+-- a unit is of a delivery by memory (route 0) or by disk (route 1), with a serial up to the last one there
+abbrev pub IsGiven : Machine → UnitKey → Type 0
+IsGiven m key =
+    ((key.ticket.route ≡ 0) × (key.ticket.serial ≤ m.last_staged)) ⊎ ((key.ticket.route ≡ 1) × (key.ticket.serial ≤ m.last_file))
+
+-- the serials of spent units and those in kept are at most the last ones, and a delivery that is staged has no spent unit
+pub record SerialsAreGiven (m : Machine) : Type 0 where
+  pub elements : AllByRecursion (λ e. IsGiven m e.key) m.list
+  pub kept : AllByRecursion (λ s. s ≤ m.last_file) m.kept
+  pub staged : AllByRecursion (λ p. list_any (λ e. is_of 0 p.serial e.key) m.list ≡ false) m.staged
+
+-- a delivery holds at most 8 capsules. Of items and devices nothing needs to be said: a capsule of more than 16 items is
+-- passed over, and a board has at most 8 devices.
+pub record KeepsLimits (f : Formats) : Type 0 where
+  pub capsules : (bytes : List ℕ) (found : List Capsule) → f.capsules bytes ≡ Some found → length found ≤ 8

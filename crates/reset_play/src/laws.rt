@@ -1,15 +1,18 @@
 //! What holds of the reference machine, whatever is delivered, whatever fails, and whatever the formats say. Each law is the
 //! contract of a function that does nothing.
 
-ghost use Rattle.std.specs.Prelude.{◌≡◌, ◌≤◌, ℕ, List, ◌++◌};
-ghost use Rattle.bench_model.specs.Boards.{BoardValue};
+ghost use Rattle.std.specs.Prelude.{◌≡◌, ◌<◌, ◌≤◌, ◌^◌, ℕ, List, ◌++◌};
+ghost use Rattle.bench_model.specs.Boards.{BoardValue, IsBoard};
+ghost use Rattle.reset_play.specs.Boots.{boot_at};
 ghost use Rattle.reset_play.specs.Events.{Act, Run, trace_of, machine_after};
 ghost use Rattle.reset_play.specs.Formats.{Formats};
-ghost use Rattle.reset_play.specs.Laws.{IsReached, OpenIsLast, AttemptsReachFloor, AreApart, StandInOrder, HaveDistinctKeys, TellNoFault};
+ghost use Rattle.reset_play.specs.Laws.{IsReached, OpenIsLast, AttemptsReachFloor, AreApart, StandInOrder, HaveDistinctKeys, SpentFilesAreKept, IsWithinLimits, SerialsAreGiven, KeepsLimits, TellNoFault};
 ghost use Rattle.reset_play.specs.Machine.{Machine, fresh};
 ghost use Rattle.reset_play.specs.Samples.{sample_text, text_of, redelivery, lower_version, refusals, wrapping, redelivery_lines, lower_version_lines, refusals_lines, wrapping_lines};
 ghost use Rattle.reset_play.specs.Spent.{Element, floor_of};
+ghost use Rattle.reset_play.specs.Thin.{thin};
 ghost use Rattle.reset_play.specs.Told.{Said};
+ghost use Rattle.reset_play.specs.declared.unit.End.{End};
 
 /// The floor in force of a device never falls along the list of spent units.
 #[tactic(auto, using(crate::proofs::Floors::never_falls))]
@@ -36,6 +39,25 @@ pub fn deliveries_are_apart()
 pub fn units_stand_in_order()
     ensures order { (f : Formats) (board : BoardValue) (m : Machine) → IsReached f board m → StandInOrder m.list }
     ensures keys { (f : Formats) (board : BoardValue) (m : Machine) → IsReached f board m → HaveDistinctKeys m.list }
+{}
+
+/// A file of which units are spent has its serial in `kept`.
+pub fn spent_files_are_kept()
+    ensures { (f : Formats) (board : BoardValue) (m : Machine) → IsReached f board m → SpentFilesAreKept m }
+{}
+
+/// Files, staged deliveries and the serials in `kept` are within their limits. The serials of spent units and those in `kept`
+/// are at most the last ones, and a staged delivery has no spent unit.
+pub fn limits_are_kept()
+    ensures limits { (f : Formats) (board : BoardValue) (m : Machine) → IsReached f board m → IsWithinLimits m }
+    ensures serials { (f : Formats) (board : BoardValue) (m : Machine) → IsReached f board m → SerialsAreGiven m }
+{}
+
+/// A boot has fewer than 2^20 steps, finished or stopped, where a delivery holds at most 8 capsules. A thin delivery does.
+pub fn a_boot_is_short()
+    ensures short { (f : Formats) (board : BoardValue) (m : Machine) → KeepsLimits f → IsBoard board → IsReached f board m →
+        (h : End) (j : ℕ) → (boot_at f m h j).report.steps < 2 ^ 20 }
+    ensures thin { KeepsLimits thin }
 {}
 
 /// Events that tell no fault tell one trace and leave one machine, and there is such a run of any events.

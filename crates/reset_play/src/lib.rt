@@ -18,8 +18,9 @@ mod unit;
 use cu_base::Items;
 pub use event::Event;
 pub use laws::{
-    attempts_reach_the_floor, deliveries_are_apart, floor_never_falls, sample_plays,
-    the_last_alone_is_open, units_stand_in_order, without_faults_there_is_one_machine,
+    a_boot_is_short, attempts_reach_the_floor, deliveries_are_apart, floor_never_falls,
+    limits_are_kept, sample_plays, spent_files_are_kept, the_last_alone_is_open,
+    units_stand_in_order, without_faults_there_is_one_machine,
 };
 pub use limits::{MAX_FILES, MAX_MEMORY_BYTES, MAX_SEGMENTS, MAX_STAGED};
 pub use report::Report;
