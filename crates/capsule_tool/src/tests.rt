@@ -1,3 +1,4 @@
+mod cut;
 mod plays;
 
 use super::*;
@@ -349,13 +350,18 @@ fn answers_missing_and_failing_inputs(rt: HostRuntime) -> Result<(), Fail> {
         ..input(&whole)
     };
     expect(&rt, &["check", "a.cap"], &first, 4, "unread a.cap\n")?;
-    let last = Given {
+    let rest = Given {
         read_fails: &[2],
         ..input(&whole)
     };
-    expect(&rt, &["check", "a.cap"], &last, 4, "unread a.cap\n")?;
-    let beyond = Given {
+    expect(&rt, &["check", "a.cap"], &rest, 4, "unread a.cap\n")?;
+    let end = Given {
         read_fails: &[3],
+        ..input(&whole)
+    };
+    expect(&rt, &["check", "a.cap"], &end, 4, "unread a.cap\n")?;
+    let beyond = Given {
+        read_fails: &[4],
         ..input(&whole)
     };
     expect(&rt, &["check", "a.cap"], &beyond, 0, "ok 32\n")?;
