@@ -67,12 +67,15 @@ place_of ops k = length (section_bytes (take k ops))
 abbrev pub type_row : List Op → ℕ → Row DepWhy
 type_row ops k = row (not (is_typed (take (k + 1) ops))) (place_of ops k) BadTypes
 
--- the rows of operations up to END: the declared length, the types from the front, and what is left at END
+-- the rows of the types of operations up to END, from the front, and of what is left at END
+abbrev pub type_rows : List Op → List (Row DepWhy)
+type_rows ops =
+    map (type_row ops) (range_with_len 0 (length ops))
+    ++ row (not (leaves_one_truth ops)) (place_of ops (length ops - 1)) NotOneBool ∷ []
+
+-- the rows of operations up to END: the declared length, then the types
 abbrev pub section_rows : List Op → List (Row DepWhy)
-section_rows ops =
-    row (not (is_declared ops)) 1 WrongDeclare
-    ∷ (map (type_row ops) (range_with_len 0 (length ops))
-    ++ row (not (leaves_one_truth ops)) (place_of ops (length ops - 1)) NotOneBool ∷ [])
+section_rows ops = row (not (is_declared ops)) 1 WrongDeclare ∷ type_rows ops
 
 -- the operations up to END keep the rules one by one, and together they do not
 pub record EndsWrong (bytes : List ℕ) (at : ℕ) (why : DepWhy) : Type 0 where

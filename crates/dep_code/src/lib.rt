@@ -13,6 +13,8 @@ mod limits;
 mod op;
 mod ops;
 mod reading;
+mod stack;
+mod typing;
 mod tree;
 
 pub use fault::{DepFault, DepRefusal, DepWhy};
