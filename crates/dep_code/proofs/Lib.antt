@@ -1,3 +1,5 @@
 pub mod Bytes
+pub mod Entries
 pub mod Fronts
 pub mod Types
+pub mod Wholes
