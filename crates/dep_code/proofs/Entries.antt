@@ -15,89 +15,45 @@ use Rattle.dep_code.specs.Operations.{computes, computing}
 use Rattle.dep_code.specs.Tree as tree
 use Rattle.dep_code.specs.Tree.{Tree}
 use Rattle.dep_code.specs.Trees.{push, comparison, post, IsTreeOf}
+use Rattle.dep_code.specs.Building.{Entry, Operand, Subtree, negated, joined, compared_by, entries_behind, entries_after}
 use Rattle.dep_code.specs.Typing.{stack_behind, stack_after, is_one_truth}
 
--- what stands on the stack
-pub data Entry : Type 0 where
-  Num : Compared → Entry
-  Tru : Tree → Entry
-
+-- the kind of an entry
 abbrev pub kind_of : Entry → Kind
-kind_of (Num c) = Number
-kind_of (Tru t) = Truth
+kind_of (Operand c) = Number
+kind_of (Subtree t) = Truth
 
 abbrev pub kinds_of : List Entry → List Kind
 kinds_of = map kind_of
 
 -- the operations of an entry, and of all, the top last
 abbrev pub post_of : Entry → List Op
-post_of (Num c) = push c ∷ []
-post_of (Tru t) = post t
+post_of (Operand c) = push c ∷ []
+post_of (Subtree t) = post t
 
 abbrev pub posts : List Entry → List Op
 posts [] = []
 posts (e ∷ s) = posts s ++ post_of e
 
--- what an operation makes of the entries at the top
-abbrev pub negated : List Entry → Option (List Entry)
-negated [] = None
-negated (Num c ∷ s) = None
-negated (Tru t ∷ s) = Some (Tru (tree.Not t) ∷ s)
-
-abbrev pub joined : (Tree → Tree → Tree) → List Entry → Option (List Entry)
-joined f [] = None
-joined f (Num c ∷ s) = None
-joined f (Tru t ∷ []) = None
-joined f (Tru t ∷ Num c ∷ s) = None
-joined f (Tru t ∷ Tru u ∷ s) = Some (Tru (f t u) ∷ s)
-
-abbrev pub compared_by : CompareKind → List Entry → Option (List Entry)
-compared_by kind [] = None
-compared_by kind (Tru t ∷ s) = None
-compared_by kind (Num c ∷ []) = None
-compared_by kind (Num c ∷ Tru t ∷ s) = None
-compared_by kind (Num c ∷ Num d ∷ s) = Some (Tru (tree.Compare kind c d) ∷ s)
-
-abbrev pub entries_behind : Op → List Entry → Option (List Entry)
-entries_behind (PushGuid guid) s = Some (Num (compared.Guid guid) ∷ s)
-entries_behind (PushVersion version) s = Some (Num (compared.Version version) ∷ s)
-entries_behind (VersionStr text) s = Some s
-entries_behind And s = joined tree.And s
-entries_behind Or s = joined tree.Or s
-entries_behind Not s = negated s
-entries_behind True s = Some (Tru tree.True ∷ s)
-entries_behind False s = Some (Tru tree.False ∷ s)
-entries_behind Eq s = compared_by kinds.Eq s
-entries_behind Gt s = compared_by kinds.Gt s
-entries_behind Gte s = compared_by kinds.Gte s
-entries_behind Lt s = compared_by kinds.Lt s
-entries_behind Lte s = compared_by kinds.Lte s
-entries_behind End s = Some s
-entries_behind (DeclareLength size) s = Some s
-
-abbrev pub entries_after : List Entry → List Op → Option (List Entry)
-entries_after s [] = Some s
-entries_after s (op ∷ ops) = option_and_then (λ next. entries_after next ops) (entries_behind op s)
-
 -- the kinds of the entries are those on the stack of kinds
 joined_kinds : (f : Tree → Tree → Tree) (s : List Entry) → option_map kinds_of (joined f s) ≡ stack_behind And (kinds_of s)
 joined_kinds f [] = refl
-joined_kinds f (Num c ∷ s) = refl
-joined_kinds f (Tru t ∷ []) = refl
-joined_kinds f (Tru t ∷ Num c ∷ s) = refl
-joined_kinds f (Tru t ∷ Tru u ∷ s) = refl
+joined_kinds f (Operand c ∷ s) = refl
+joined_kinds f (Subtree t ∷ []) = refl
+joined_kinds f (Subtree t ∷ Operand c ∷ s) = refl
+joined_kinds f (Subtree t ∷ Subtree u ∷ s) = refl
 
 negated_kinds : (s : List Entry) → option_map kinds_of (negated s) ≡ stack_behind Not (kinds_of s)
 negated_kinds [] = refl
-negated_kinds (Num c ∷ s) = refl
-negated_kinds (Tru t ∷ s) = refl
+negated_kinds (Operand c ∷ s) = refl
+negated_kinds (Subtree t ∷ s) = refl
 
 compared_kinds : (kind : CompareKind) (s : List Entry) → option_map kinds_of (compared_by kind s) ≡ stack_behind Eq (kinds_of s)
 compared_kinds kind [] = refl
-compared_kinds kind (Tru t ∷ s) = refl
-compared_kinds kind (Num c ∷ []) = refl
-compared_kinds kind (Num c ∷ Tru t ∷ s) = refl
-compared_kinds kind (Num c ∷ Num d ∷ s) = refl
+compared_kinds kind (Subtree t ∷ s) = refl
+compared_kinds kind (Operand c ∷ []) = refl
+compared_kinds kind (Operand c ∷ Subtree t ∷ s) = refl
+compared_kinds kind (Operand c ∷ Operand d ∷ s) = refl
 
 behind_kinds : (op : Op) (s : List Entry) → option_map kinds_of (entries_behind op s) ≡ stack_behind op (kinds_of s)
 behind_kinds (PushGuid guid) s = refl
@@ -131,22 +87,22 @@ weaker P Q (Some x) h p = h x p
 
 joined_posts : (f : Tree → Tree → Tree) (op : Op) → ((t u : Tree) → post (f t u) ≡ post u ++ post t ++ op ∷ []) → (s : List Entry) → IfSome (joined f s) (λ t. posts t ≡ posts s ++ op ∷ [])
 joined_posts f op h [] = tt
-joined_posts f op h (Num c ∷ s) = tt
-joined_posts f op h (Tru t ∷ []) = tt
-joined_posts f op h (Tru t ∷ Num c ∷ s) = tt
-joined_posts f op h (Tru t ∷ Tru u ∷ s) = ap (λ (l : List Op). posts s ++ l) (h t u) ∙ simp append_assoc
+joined_posts f op h (Operand c ∷ s) = tt
+joined_posts f op h (Subtree t ∷ []) = tt
+joined_posts f op h (Subtree t ∷ Operand c ∷ s) = tt
+joined_posts f op h (Subtree t ∷ Subtree u ∷ s) = ap (λ (l : List Op). posts s ++ l) (h t u) ∙ simp append_assoc
 
 negated_posts : (s : List Entry) → IfSome (negated s) (λ t. posts t ≡ posts s ++ Not ∷ [])
 negated_posts [] = tt
-negated_posts (Num c ∷ s) = tt
-negated_posts (Tru t ∷ s) = simp append_assoc
+negated_posts (Operand c ∷ s) = tt
+negated_posts (Subtree t ∷ s) = simp append_assoc
 
 compared_posts : (kind : CompareKind) (s : List Entry) → IfSome (compared_by kind s) (λ t. posts t ≡ posts s ++ comparison kind ∷ [])
 compared_posts kind [] = tt
-compared_posts kind (Tru t ∷ s) = tt
-compared_posts kind (Num c ∷ []) = tt
-compared_posts kind (Num c ∷ Tru t ∷ s) = tt
-compared_posts kind (Num c ∷ Num d ∷ s) = simp append_assoc
+compared_posts kind (Subtree t ∷ s) = tt
+compared_posts kind (Operand c ∷ []) = tt
+compared_posts kind (Operand c ∷ Subtree t ∷ s) = tt
+compared_posts kind (Operand c ∷ Operand d ∷ s) = simp append_assoc
 
 behind_posts : (op : Op) (s : List Entry) → IfSome (entries_behind op s) (λ t. posts t ≡ posts s ++ computing (op ∷ []))
 behind_posts (PushGuid guid) s = refl
@@ -177,11 +133,11 @@ after_posts [] s = sym (append-nil (posts s))
 after_posts (op ∷ ops) s = posts_step (entries_behind op s) s op ops (behind_posts op s) (λ n. after_posts ops n)
 
 -- a stack of one truth value is one tree
-one_entry : (s : List Entry) → is_one_truth (Some (kinds_of s)) ≡ true → (t : Tree) × (s ≡ Tru t ∷ [])
+one_entry : (s : List Entry) → is_one_truth (Some (kinds_of s)) ≡ true → (t : Tree) × (s ≡ Subtree t ∷ [])
 one_entry [] e = absurd cc
-one_entry (Num c ∷ s) e = absurd cc
-one_entry (Tru t ∷ []) e = (t, refl)
-one_entry (Tru t ∷ u ∷ s) e = absurd cc
+one_entry (Operand c ∷ s) e = absurd cc
+one_entry (Subtree t ∷ []) e = (t, refl)
+one_entry (Subtree t ∷ u ∷ s) e = absurd cc
 
 tree_in : (o : Option (List Entry)) (ops : List Op) (k : Option (List Kind)) → option_map kinds_of o ≡ k → is_one_truth k ≡ true → IfSome o (λ t. posts t ≡ [] ++ computing ops) → (t : Tree) × IsTreeOf t ops
 tree_in None ops k e one h = absurd (cc (ap is_one_truth e))
@@ -218,7 +174,7 @@ pub after_computing : (ops : List Op) (s : List Entry) → entries_after s ops �
 after_computing [] s = refl
 after_computing (op ∷ ops) s = computing_first op ops s (λ n. after_computing ops n)
 
-push_entry : (c : Compared) (s : List Entry) → entries_behind (push c) s ≡ Some (Num c ∷ s)
+push_entry : (c : Compared) (s : List Entry) → entries_behind (push c) s ≡ Some (Operand c ∷ s)
 push_entry (compared.Version version) s = refl
 push_entry (compared.Guid guid) s = refl
 
@@ -229,23 +185,23 @@ comparison_entry kinds.Gte s = refl
 comparison_entry kinds.Lt s = refl
 comparison_entry kinds.Lte s = refl
 
-after_comparison : (kind : CompareKind) (left right : Compared) (ops : List Op) (s : List Entry) → entries_after s (push right ∷ push left ∷ comparison kind ∷ ops) ≡ entries_after (Tru (tree.Compare kind left right) ∷ s) ops
+after_comparison : (kind : CompareKind) (left right : Compared) (ops : List Op) (s : List Entry) → entries_after s (push right ∷ push left ∷ comparison kind ∷ ops) ≡ entries_after (Subtree (tree.Compare kind left right) ∷ s) ops
 after_comparison kind left right ops s =
     ap (option_and_then (λ n. entries_after n (push left ∷ comparison kind ∷ ops))) (push_entry right s)
-    ∙ ap (option_and_then (λ n. entries_after n (comparison kind ∷ ops))) (push_entry left (Num right ∷ s))
-    ∙ ap (option_and_then (λ n. entries_after n ops)) (comparison_entry kind (Num left ∷ Num right ∷ s))
+    ∙ ap (option_and_then (λ n. entries_after n (comparison kind ∷ ops))) (push_entry left (Operand right ∷ s))
+    ∙ ap (option_and_then (λ n. entries_after n ops)) (comparison_entry kind (Operand left ∷ Operand right ∷ s))
 
-pub after_post : (t : Tree) (ops : List Op) (s : List Entry) → entries_after s (post t ++ ops) ≡ entries_after (Tru t ∷ s) ops
+pub after_post : (t : Tree) (ops : List Op) (s : List Entry) → entries_after s (post t ++ ops) ≡ entries_after (Subtree t ∷ s) ops
 after_post tree.True ops s = refl
 after_post tree.False ops s = refl
 after_post (tree.Not t) ops s = ap (entries_after s) (append_assoc (post t) (Not ∷ []) ops) ∙ after_post t (Not ∷ ops) s
 after_post (tree.And left right) ops s =
     ap (entries_after s) (append_assoc (post right ++ post left) (And ∷ []) ops ∙ append_assoc (post right) (post left) (And ∷ ops))
-    ∙ after_post right (post left ++ And ∷ ops) s ∙ after_post left (And ∷ ops) (Tru right ∷ s)
+    ∙ after_post right (post left ++ And ∷ ops) s ∙ after_post left (And ∷ ops) (Subtree right ∷ s)
 after_post (tree.Or left right) ops s =
     ap (entries_after s) (append_assoc (post right ++ post left) (Or ∷ []) ops ∙ append_assoc (post right) (post left) (Or ∷ ops))
-    ∙ after_post right (post left ++ Or ∷ ops) s ∙ after_post left (Or ∷ ops) (Tru right ∷ s)
+    ∙ after_post right (post left ++ Or ∷ ops) s ∙ after_post left (Or ∷ ops) (Subtree right ∷ s)
 after_post (tree.Compare kind left right) ops s = after_comparison kind left right ops s
 
-pub after_tree : (t : Tree) (ops : List Op) → IsTreeOf t ops → entries_after [] ops ≡ Some (Tru t ∷ [])
+pub after_tree : (t : Tree) (ops : List Op) → IsTreeOf t ops → entries_after [] ops ≡ Some (Subtree t ∷ [])
 after_tree t ops e = after_computing ops [] ∙ ap (entries_after []) (e ∙ sym (append-nil (post t))) ∙ after_post t [] []

@@ -1,5 +1,6 @@
 pub mod Bytes
 pub mod Entries
 pub mod Fronts
+pub mod Loops
 pub mod Types
 pub mod Wholes

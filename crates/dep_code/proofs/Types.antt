@@ -58,7 +58,7 @@ pub ops_length : (items : List (ℕ × Op)) → length (ops_of items) ≡ length
 ops_length [] = refl
 ops_length (item ∷ items) = ap suc (ops_length items)
 
-take_item : (items : List (ℕ × Op)) (k : ℕ) (item : ℕ × Op) → IsItem items k item → take (k + 1) (ops_of items) ≡ take k (ops_of items) ++ item.1 ∷ []
+pub take_item : (items : List (ℕ × Op)) (k : ℕ) (item : ℕ × Op) → IsItem items k item → take (k + 1) (ops_of items) ≡ take k (ops_of items) ++ item.1 ∷ []
 take_item items k item h =
     let long : length (ops_of items) ≡ length items = ops_length items in
     let there : k < length (ops_of items) = omega (arith, h.there) in

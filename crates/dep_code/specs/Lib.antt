@@ -1,3 +1,4 @@
+pub mod Building
 pub mod Operations
 pub mod Reading
 pub mod Refusals

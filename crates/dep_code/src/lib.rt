@@ -7,6 +7,7 @@
 //! say that bytes begin with one section or are refused at one place for one cause, and never both.
 #![tactic(auto)]
 
+mod building;
 mod fault;
 mod kind;
 mod limits;
@@ -16,11 +17,14 @@ mod read;
 mod reading;
 mod stack;
 mod typing;
+mod writing;
 mod tree;
 
+pub use building::tree_of;
 pub use fault::{DepFault, DepRefusal, DepWhy};
 pub use limits::MAX_SECTION_BYTES;
 pub use op::Op;
 pub use ops::Ops;
 pub use read::read_ops;
+pub use writing::write_ops;
 pub use tree::{CompareKind, Compared, DepTree};
