@@ -1,5 +1,6 @@
 pub mod Bytes
 pub mod Entries
+pub mod Evaluated
 pub mod Fronts
 pub mod Loops
 pub mod Types

@@ -31,7 +31,7 @@ some_again : {A : Type 0} (o : Option A) → option_and_then (λ x. Some x) o �
 some_again None = refl
 some_again (Some x) = refl
 
-first_some : {A B : Type 0} (f : A → Option B) (o : Option A) (x : B) → option_and_then f o ≡ Some x → IsSome o
+pub first_some : {A B : Type 0} (f : A → Option B) (o : Option A) (x : B) → option_and_then f o ≡ Some x → IsSome o
 first_some f None x e = absurd cc
 first_some f (Some y) x e = refl
 

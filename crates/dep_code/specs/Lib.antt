@@ -1,4 +1,5 @@
 pub mod Building
+pub mod Evaluation
 pub mod Operations
 pub mod Reading
 pub mod Refusals

@@ -8,6 +8,7 @@
 #![tactic(auto)]
 
 mod building;
+mod evaluation;
 mod fault;
 mod kind;
 mod limits;
@@ -21,6 +22,7 @@ mod writing;
 mod tree;
 
 pub use building::tree_of;
+pub use evaluation::eval;
 pub use fault::{DepFault, DepRefusal, DepWhy};
 pub use limits::MAX_SECTION_BYTES;
 pub use op::Op;
@@ -28,3 +30,6 @@ pub use ops::Ops;
 pub use read::read_ops;
 pub use writing::write_ops;
 pub use tree::{CompareKind, Compared, DepTree};
+
+/// A list of pairs of GUID and version.
+pub type Versions = cu_base::Items<(cu_base::Guid, u32)>;
