@@ -17,6 +17,8 @@ mod ops;
 mod read;
 mod reading;
 mod stack;
+#[cfg(test)]
+mod tests;
 mod typing;
 mod writing;
 mod tree;
