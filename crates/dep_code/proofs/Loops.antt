@@ -23,7 +23,7 @@ behind_both : (o : Option (List Entry)) (a b : List Op) → ((n : List Entry) �
 behind_both None a b h = refl
 behind_both (Some n) a b h = h n
 
-entries_append : (a b : List Op) (s : List Entry) → entries_after s (a ++ b) ≡ option_and_then (λ n. entries_after n b) (entries_after s a)
+pub entries_append : (a b : List Op) (s : List Entry) → entries_after s (a ++ b) ≡ option_and_then (λ n. entries_after n b) (entries_after s a)
 entries_append [] b s = refl
 entries_append (op ∷ a) b s = behind_both (entries_behind op s) a b (λ n. entries_append a b n)
 

@@ -11,6 +11,7 @@ mod building;
 mod evaluation;
 mod fault;
 mod kind;
+pub mod laws;
 mod limits;
 mod op;
 mod ops;
