@@ -5,12 +5,11 @@ use Rattle.std.proofs.lemmas.List.{take_at, drop_at, length-append}
 use Rattle.std.proofs.lemmas.Bool.Decides.{nat_tests}
 use Rattle.cu_base.specs.Fields.{number, bytes_of}
 use Rattle.cu_base.specs.Refusals.{first_refusal}
-use Rattle.cu_base.specs.declared.guid.Guid.{Guid}
 use Rattle.cu_base.proofs.FieldLemmas.{reads}
 use Rattle.dep_code.specs.declared.limits.TheConstants.{MAX_SECTION_BYTES}
 use Rattle.dep_code.specs.declared.op.Op.{Op}
 use Rattle.dep_code.specs.declared.op.Op.TheVariants.{PushGuid, PushVersion, VersionStr, And, Or, Not, True, False, Eq, Gt, Gte, Lt, Lte, End, DeclareLength}
-use Rattle.dep_code.specs.Operations.{opcode, operand, op_bytes, HasForm, is_nonzero, is_declare}
+use Rattle.dep_code.specs.Operations.{opcode, op_bytes, HasForm, is_nonzero, is_declare}
 use Rattle.dep_code.specs.Refusals.{first_byte, op_size, text_size, place_rows}
 use Rattle.dep_code.specs.Sections.{may_follow}
 

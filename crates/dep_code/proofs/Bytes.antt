@@ -1,11 +1,11 @@
 -- The bytes of one operation.
-use Rattle.std.proofs.Common.{◌≡◌, ℕ, zero, suc, ◌+◌, ◌-◌, ◌*◌, ◌/◌, ◌%◌, ◌<◌, ◌≤◌, Bool, true, false, not, cond, ◌==◌, IsTrue, List, [], ◌∷◌, ◌++◌, length, get_or, take, drop, refl, sym, ap, ◌∙◌, ◌||◌, add_comm, add-one, arith}
-use Rattle.std.proofs.lemmas.List.{length-take, length-drop, get_or-drop, get_or-take, get_or_past}
+use Rattle.std.proofs.Common.{◌≡◌, ℕ, suc, ◌+◌, ◌-◌, ◌*◌, ◌/◌, ◌%◌, ◌<◌, ◌≤◌, Bool, true, false, cond, ◌==◌, IsTrue, List, [], ◌∷◌, ◌++◌, length, get_or, take, drop, refl, ap, ◌∙◌, ◌||◌, add_comm, add-one, arith}
+use Rattle.std.proofs.lemmas.List.{length-take, get_or-take, get_or_past}
 use Rattle.std.proofs.lemmas.Bool.{cases_lt}
 use Rattle.std.proofs.Common.{inl, inr}
 use Rattle.std.specs.List.{list_all}
 use Rattle.std.proofs.lemmas.Bool.Decides.{nat_tests}
-use Rattle.cu_base.specs.Fields.{number, field, number_at, bytes_of}
+use Rattle.cu_base.specs.Fields.{number, number_at, bytes_of}
 use Rattle.dep_code.specs.Operations.{is_nonzero}
 use Rattle.dep_code.specs.Refusals.{first_byte, op_size, text_size}
 

@@ -1,7 +1,7 @@
 -- The values on the stack are those of the entries.
-use Rattle.std.proofs.Common.{◌≡◌, ℕ, ◌+◌, Bool, true, false, not, ◌&&◌, ◌||◌, cond, List, [], ◌∷◌, ◌++◌, map, length, take, Option, Some, None, IsSome, refl, sym, ap, subst, ◌∙◌}
+use Rattle.std.proofs.Common.{◌≡◌, ℕ, ◌+◌, Bool, true, false, ◌&&◌, ◌||◌, List, [], ◌∷◌, ◌++◌, map, length, take, Option, Some, None, IsSome, refl, sym, ap, subst, ◌∙◌}
 use Rattle.std.specs.List.{list_all}
-use Rattle.std.specs.Option.{option_map, is_some}
+use Rattle.std.specs.Option.{option_map}
 use Rattle.std.proofs.lemmas.List.Folds.{list_all-append, list_all-map}
 use Rattle.cu_base.specs.declared.guid.Guid.{Guid}
 use Rattle.dep_code.specs.declared.evaluation.Value.{Value}
@@ -14,13 +14,13 @@ use Rattle.dep_code.specs.declared.tree.Compared.{Compared}
 use Rattle.dep_code.specs.declared.tree.Compared.TheVariants as compared
 use Rattle.dep_code.specs.Building.{Entry, Operand, Subtree, negated, joined, compared_by, entries_behind, entries_after}
 use Rattle.dep_code.specs.Evaluation.{knows, negated_value, joined_values, compared_values, values_behind}
-use Rattle.dep_code.specs.Operations.{computes, computing}
+use Rattle.dep_code.specs.Operations.{computing}
 use Rattle.dep_code.specs.Sections.{ArePlaced, ops_of}
 use Rattle.dep_code.specs.Tree as tree
 use Rattle.dep_code.specs.Tree.{Tree}
 use Rattle.dep_code.specs.Trees.{push, comparison, post, IsTreeOf}
-use Rattle.dep_code.specs.Values.{is_known, number_of, holds, knows_all, value, is_satisfied, IsAnswerOf}
-use Rattle.dep_code.proofs.Loops.{step_stands, entries_more, one_tree_left, first_some}
+use Rattle.dep_code.specs.Values.{is_known, number_of, knows_all, value, IsAnswerOf}
+use Rattle.dep_code.proofs.Loops.{step_stands, entries_more, one_tree_left}
 use Rattle.dep_code.proofs.Types.{IsItem}
 
 abbrev pub entry_value : List (Guid × ℕ) → Entry → Value

@@ -1,6 +1,6 @@
 -- Operations one behind another from the front of bytes.
-use Rattle.std.proofs.Common.{◌≡◌, ℕ, zero, suc, ◌+◌, ◌<◌, ◌≤◌, Bool, true, false, not, ◌&&◌, cond, ◌==◌, nat_lt, IsTrue, List, [], ◌∷◌, ◌++◌, length, take, drop, map, Option, Some, None, Result, Err, inl, refl, sym, ap, subst, ◌∙◌, arith, append_assoc, add-zero, zero-add}
-use Rattle.std.specs.List.{flat_map, list_all, AllByRecursion}
+use Rattle.std.proofs.Common.{◌≡◌, ℕ, zero, suc, ◌+◌, ◌<◌, ◌≤◌, Bool, true, false, not, ◌&&◌, cond, ◌==◌, nat_lt, List, [], ◌∷◌, ◌++◌, length, take, drop, Option, Some, None, Err, inl, refl, sym, ap, subst, ◌∙◌, arith, append_assoc, add-zero, zero-add}
+use Rattle.std.specs.List.{list_all, AllByRecursion}
 use Rattle.std.proofs.lemmas.Grind.{flat_map-append}
 use Rattle.std.proofs.lemmas.List.{map_push, length-append, length-take, take-append-drop, take_at, drop-drop, append-nil}
 use Rattle.std.proofs.lemmas.List.Folds.{list_all-append}
@@ -12,7 +12,7 @@ use Rattle.dep_code.specs.declared.op.Op.{Op}
 use Rattle.dep_code.specs.declared.op.Op.TheVariants.{End}
 use Rattle.dep_code.specs.declared.fault.DepRefusal.{DepRefusal}
 use Rattle.dep_code.specs.declared.fault.DepRefusal.TheVariants.{Dep, Memory}
-use Rattle.dep_code.specs.Operations.{opcode, op_bytes, section_bytes, HasForm, is_end, is_declare}
+use Rattle.dep_code.specs.Operations.{opcode, op_bytes, section_bytes, HasForm, is_end}
 use Rattle.dep_code.specs.Reading.{EndsAt}
 use Rattle.dep_code.specs.Refusals.{Answers, IsFront, IsRefusalOf, first_byte, op_size, place_rows}
 use Rattle.dep_code.specs.Sections.{AreBeforeEnd, goes_on, may_follow, ops_of, placed}

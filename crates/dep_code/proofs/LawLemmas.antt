@@ -1,19 +1,20 @@
 -- Sections and refusals, against each other.
-use Rattle.std.proofs.Common.{◌≡◌, ℕ, zero, suc, ◌+◌, ◌-◌, ◌<◌, ◌≤◌, ◌⊎◌, inl, inr, Bool, true, false, not, cond, List, [], ◌∷◌, ◌++◌, length, take, drop, map, Option, Some, None, IsSome, refl, sym, ap, subst, ◌∙◌, arith, append_assoc, zero-add}
+use Rattle.std.proofs.Common.{◌≡◌, ℕ, ◌+◌, ◌≤◌, inl, inr, true, not, List, [], ◌∷◌, ◌++◌, length, take, drop, Option, Some, None, IsSome, Err, refl, sym, ap, ◌∙◌, arith, append_assoc, zero-add}
 use Rattle.std.specs.Option.{option_and_then, option_map, is_some}
-use Rattle.std.proofs.lemmas.List.{length-append, append-nil, take-append-drop}
+use Rattle.std.proofs.lemmas.List.{length-take, take-append-drop}
 use Rattle.cu_base.specs.Refusals.{first_refusal}
 use Rattle.dep_code.specs.declared.limits.TheConstants.{MAX_SECTION_BYTES}
-use Rattle.dep_code.specs.declared.kind.Kind.TheVariants.{Truth}
 use Rattle.dep_code.specs.declared.op.Op.{Op}
 use Rattle.dep_code.specs.declared.op.Op.TheVariants.{End}
+use Rattle.dep_code.specs.declared.fault.DepRefusal.{DepRefusal}
+use Rattle.dep_code.specs.declared.fault.DepRefusal.TheVariants.{Dep, Memory}
 use Rattle.dep_code.specs.declared.fault.DepWhy.{DepWhy}
 use Rattle.dep_code.specs.Building.{Entry, Subtree, entries_after}
 use Rattle.dep_code.specs.Operations.{op_bytes, section_bytes}
-use Rattle.dep_code.specs.Refusals.{place_rows, type_row, type_rows, section_rows, IsFront, BreaksOff, EndsWrong, IsRefused}
-use Rattle.dep_code.specs.Sections.{IsSection, AreBeforeEnd}
+use Rattle.dep_code.specs.Refusals.{place_rows, type_row, type_rows, section_rows, BreaksOff, EndsWrong, IsRefused, IsRefusalOf, IsFound}
+use Rattle.dep_code.specs.Sections.{IsSection, AreBeforeEnd, StandsAtFront, ops_of, placed}
 use Rattle.dep_code.specs.Tree.{Tree}
-use Rattle.dep_code.specs.Typing.{is_one_truth, is_typed, leaves_one_truth, stack_after}
+use Rattle.dep_code.specs.Typing.{is_one_truth, is_typed, leaves_one_truth}
 use Rattle.dep_code.proofs.Apart.{keeps_rows}
 use Rattle.dep_code.proofs.Entries.{after_tree, after_kinds, kinds_of}
 use Rattle.dep_code.proofs.Fronts.{bytes_push, length_more}
@@ -56,13 +57,13 @@ same_end bytes a b r s ha hb =
 pub end_or_row : (bytes : List ℕ) (at : ℕ) (why : DepWhy) (b : List Op) (s : List ℕ) → BreaksOff bytes at why → HasEnd bytes b s → ⊥
 end_or_row bytes at why b s ha hb =
     let same = same_front ha.ops b ha.rest (op_bytes End ++ s) 0
-      (from_start ha.ops ha.front.kept ha.front.within) (from_start b hb.kept (omega (arith, before_end b hb.within)))
-      (sym ha.front.whole ∙ hb.whole)
-      (row_stops ha.rest _ (at, why) (ap (λ (n : ℕ). first_refusal (place_rows ha.rest n)) (zero-add (length (section_bytes ha.ops))) ∙ ha.refused))
-      (end_stops s _) in
+    (from_start ha.ops ha.front.kept ha.front.within) (from_start b hb.kept (omega (arith, before_end b hb.within)))
+    (sym ha.front.whole ∙ hb.whole)
+    (row_stops ha.rest _ (at, why) (ap (λ (n : ℕ). first_refusal (place_rows ha.rest n)) (zero-add (length (section_bytes ha.ops))) ∙ ha.refused))
+    (end_stops s _) in
     let none : first_refusal (place_rows ha.rest (length (section_bytes ha.ops))) ≡ None =
-      ap (λ (l : List ℕ). first_refusal (place_rows l (length (section_bytes ha.ops)))) same.1 ∙ ap (λ (l : List Op). first_refusal (place_rows (op_bytes End ++ s) (length (section_bytes l)))) same.0
-      ∙ keeps_rows End s (length (section_bytes b)) tt (before_end b hb.within) (λ some. refl) in
+    ap (λ (l : List ℕ). first_refusal (place_rows l (length (section_bytes ha.ops)))) same.1 ∙ ap (λ (l : List Op). first_refusal (place_rows (op_bytes End ++ s) (length (section_bytes l)))) same.0
+    ∙ keeps_rows End s (length (section_bytes b)) tt (before_end b hb.within) (λ some. refl) in
     let both : told at why ≡ None = sym ha.refused ∙ none in
     cc
 
@@ -70,10 +71,10 @@ end_or_row bytes at why b s ha hb =
 pub same_row : (bytes : List ℕ) (at here : ℕ) (why cause : DepWhy) → BreaksOff bytes at why → BreaksOff bytes here cause → told at why ≡ told here cause
 same_row bytes at here why cause ha hb =
     let same = same_front ha.ops hb.ops ha.rest hb.rest 0
-      (from_start ha.ops ha.front.kept ha.front.within) (from_start hb.ops hb.front.kept hb.front.within)
-      (sym ha.front.whole ∙ hb.front.whole)
-      (row_stops ha.rest _ (at, why) (ap (λ (n : ℕ). first_refusal (place_rows ha.rest n)) (zero-add (length (section_bytes ha.ops))) ∙ ha.refused))
-      (row_stops hb.rest _ (here, cause) (ap (λ (n : ℕ). first_refusal (place_rows hb.rest n)) (zero-add (length (section_bytes hb.ops))) ∙ hb.refused)) in
+    (from_start ha.ops ha.front.kept ha.front.within) (from_start hb.ops hb.front.kept hb.front.within)
+    (sym ha.front.whole ∙ hb.front.whole)
+    (row_stops ha.rest _ (at, why) (ap (λ (n : ℕ). first_refusal (place_rows ha.rest n)) (zero-add (length (section_bytes ha.ops))) ∙ ha.refused))
+    (row_stops hb.rest _ (here, cause) (ap (λ (n : ℕ). first_refusal (place_rows hb.rest n)) (zero-add (length (section_bytes hb.ops))) ∙ hb.refused)) in
     sym ha.refused ∙ ap (λ (l : List ℕ). first_refusal (place_rows l (length (section_bytes ha.ops)))) same.1 ∙ ap (λ (l : List Op). first_refusal (place_rows hb.rest (length (section_bytes l)))) same.0 ∙ hb.refused
 
 -- no row holds of a section
@@ -124,3 +125,15 @@ one_refusal_lemma bytes at here why cause (inr a) (inl b) = absurd (end_or_row b
 one_refusal_lemma bytes at here why cause (inr a) (inr b) =
     let before = same_end bytes a.before b.before a.rest b.rest (wrong_end bytes at why a) (wrong_end bytes here cause b) in
     apart at here why cause (sym a.refused ∙ ap (λ (l : List Op). first_refusal (section_rows (l ++ End ∷ []))) before ∙ b.refused)
+
+-- the answer of a reader, where a section stands at the front
+pub found_one : (bytes : List ℕ) (a b : List (ℕ × Op)) (n m : ℕ) → StandsAtFront bytes a n → StandsAtFront bytes b m → (a ≡ b) × (n ≡ m)
+found_one bytes a b n m ha hb =
+    let whole : take n bytes ++ drop n bytes ≡ take m bytes ++ drop m bytes = take-append-drop n bytes ∙ sym (take-append-drop m bytes) in
+    let one = one_section_lemma (take n bytes) (take m bytes) (drop n bytes) (drop m bytes) (ops_of a) (ops_of b) ha.tree hb.tree ha.is_section hb.is_section whole in
+    (ha.places ∙ ap (placed 0) one.1 ∙ sym hb.places, omega (arith, ap length one.0, length-take n bytes, length-take m bytes, ha.there, hb.there))
+
+pub not_refused : (bytes : List ℕ) (items : List (ℕ × Op)) (size : ℕ) (r : DepRefusal) → StandsAtFront bytes items size → IsRefusalOf r bytes → IsFound items size (Err r)
+not_refused bytes items size (Dep fault) h e =
+    never_both_lemma (take size bytes) (drop size bytes) (ops_of items) h.tree fault.at fault.why h.is_section (rw (take-append-drop size bytes) e)
+not_refused bytes items size Memory h e = tt

@@ -1,8 +1,8 @@
 -- The operations of a section, one more each turn.
-use Rattle.std.proofs.Common.{◌≡◌, ℕ, ◌+◌, ◌≤◌, Bool, true, false, List, [], ◌∷◌, ◌++◌, length, take, drop, Option, Some, None, IsSome, IsTrue, refl, sym, ap, subst, ◌∙◌, arith}
+use Rattle.std.proofs.Common.{◌≡◌, ℕ, ◌+◌, List, [], ◌∷◌, ◌++◌, length, take, drop, Option, Some, None, IsSome, refl, sym, ap, subst, ◌∙◌, arith}
 use Rattle.std.specs.Option.{option_and_then}
 use Rattle.std.proofs.lemmas.List.{take-append-drop, take_all}
-use Rattle.dep_code.specs.Building.{Entry, Operand, Subtree, entries_behind, entries_after, has_tree}
+use Rattle.dep_code.specs.Building.{Entry, Subtree, entries_behind, entries_after}
 use Rattle.dep_code.specs.declared.op.Op.{Op}
 use Rattle.dep_code.specs.Operations.{op_bytes, section_bytes}
 use Rattle.dep_code.specs.Sections.{ArePlaced, ops_of}

@@ -1,14 +1,14 @@
 -- Bytes have one front of operations, up to END or to the first that breaks a rule.
-use Rattle.std.proofs.Common.{◌≡◌, ℕ, zero, suc, ◌+◌, ◌<◌, ◌≤◌, ◌⊎◌, inl, inr, Bool, true, false, not, ◌&&◌, List, [], ◌∷◌, ◌++◌, length, take, drop, map, Option, Some, None, IsTrue, refl, sym, ap, subst, ◌∙◌, arith, append_assoc, zero-add, add-zero}
+use Rattle.std.proofs.Common.{◌≡◌, ℕ, ◌+◌, ◌<◌, ◌≤◌, Bool, true, false, not, List, [], ◌∷◌, ◌++◌, length, drop, Some, None, refl, sym, ap, subst, ◌∙◌, arith, append_assoc, add-zero}
 use Rattle.std.specs.List.{list_all, AllByRecursion}
-use Rattle.std.proofs.lemmas.List.{length-append, append-nil}
+use Rattle.std.proofs.lemmas.List.{length-append}
 use Rattle.cu_base.specs.Refusals.{first_refusal}
 use Rattle.dep_code.specs.declared.limits.TheConstants.{MAX_SECTION_BYTES}
 use Rattle.dep_code.specs.declared.op.Op.{Op}
 use Rattle.dep_code.specs.declared.op.Op.TheVariants.{End}
 use Rattle.dep_code.specs.declared.fault.DepWhy.{DepWhy}
 use Rattle.dep_code.specs.Operations.{op_bytes, section_bytes, HasForm, is_end}
-use Rattle.dep_code.specs.Refusals.{place_rows, IsFront}
+use Rattle.dep_code.specs.Refusals.{place_rows}
 use Rattle.dep_code.specs.Sections.{AreBeforeEnd, goes_on, may_follow}
 use Rattle.dep_code.proofs.Apart.{same_op, keeps_rows, and_parts}
 

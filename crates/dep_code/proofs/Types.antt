@@ -1,5 +1,5 @@
 -- The stack of kinds, and the rows of types.
-use Rattle.std.proofs.Common.{◌≡◌, ℕ, zero, suc, ◌+◌, ◌-◌, ◌<◌, ◌≤◌, Bool, true, false, not, cond, List, [], ◌∷◌, ◌++◌, length, get_or, take, map, Option, Some, None, refl, sym, ap, subst, ◌∙◌, arith, add-zero, zero-add, below_more, inl, inr}
+use Rattle.std.proofs.Common.{◌≡◌, ℕ, zero, suc, ◌+◌, ◌-◌, ◌<◌, ◌≤◌, true, false, not, cond, List, [], ◌∷◌, ◌++◌, length, get_or, take, map, Option, Some, None, refl, sym, ap, ◌∙◌, arith, add-zero, zero-add, below_more, inl, inr}
 use Rattle.std.specs.List.{range_with_len}
 use Rattle.std.specs.Option.{option_and_then, is_some}
 use Rattle.std.proofs.lemmas.Bool.{cases_eq}
@@ -8,8 +8,6 @@ use Rattle.cu_base.specs.Refusals.{Row, first_refusal}
 use Rattle.dep_code.specs.declared.kind.Kind.{Kind}
 use Rattle.dep_code.specs.declared.kind.Kind.TheVariants.{Number, Truth}
 use Rattle.dep_code.specs.declared.op.Op.{Op}
-use Rattle.dep_code.specs.declared.op.Op.TheVariants.{End}
-use Rattle.dep_code.specs.declared.fault.DepWhy.{DepWhy}
 use Rattle.dep_code.specs.declared.fault.DepWhy.TheVariants.{BadTypes, NotOneBool}
 use Rattle.dep_code.specs.Operations.{op_bytes, section_bytes}
 use Rattle.dep_code.specs.Refusals.{type_row, type_rows, place_of}

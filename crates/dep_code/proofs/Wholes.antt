@@ -1,6 +1,6 @@
 -- Operations up to END, as a whole.
-use Rattle.std.proofs.Common.{◌≡◌, ℕ, ◌+◌, ◌<◌, ◌≤◌, Bool, true, false, not, cond, List, [], ◌∷◌, ◌++◌, length, take, drop, Option, Some, None, Result, Ok, Err, inr, map, refl, sym, ap, ◌∙◌, arith, append_assoc}
-use Rattle.std.proofs.lemmas.List.{take-append-drop, length-append, length-take, append-nil}
+use Rattle.std.proofs.Common.{◌≡◌, ℕ, ◌<◌, Bool, true, false, not, cond, List, [], ◌∷◌, ◌++◌, length, take, drop, Option, Some, None, Result, Err, inr, map, refl, sym, ap, ◌∙◌, arith, append_assoc}
+use Rattle.std.proofs.lemmas.List.{take-append-drop, length-append, length-take}
 use Rattle.std.specs.List.{range_with_len, list_all}
 use Rattle.std.proofs.lemmas.List.Folds.{list_all-map}
 use Rattle.cu_base.specs.Refusals.{Row, first_refusal}
@@ -15,10 +15,9 @@ use Rattle.dep_code.specs.Reading.{EndsAt}
 use Rattle.dep_code.specs.Refusals.{Answers, IsRefused, IsRefusalOf, section_rows, type_row, type_rows}
 use Rattle.dep_code.specs.Sections.{IsSection, StandsAtFront, ArePlaced, is_declared, may_declare, ops_of}
 use Rattle.dep_code.specs.Tree.{Tree}
-use Rattle.dep_code.specs.Trees.{IsTreeOf}
 use Rattle.dep_code.specs.Typing.{leaves_one_truth}
 use Rattle.dep_code.proofs.Entries.{tree_stands}
-use Rattle.dep_code.proofs.Fronts.{bytes_push, length_more}
+use Rattle.dep_code.proofs.Fronts.{bytes_push}
 use Rattle.dep_code.proofs.Types.{ops_length}
 
 pub size_is : (bytes : List ℕ) (items : List (ℕ × Op)) (size : ℕ) → EndsAt bytes items size → size ≡ length (section_bytes (ops_of items))
@@ -80,16 +79,18 @@ section_kept ops e = both_kept (is_declared ops) _ _ e
 section : (bytes : List ℕ) (items : List (ℕ × Op)) (size : ℕ) → EndsAt bytes items size → first_refusal (section_rows (ops_of items)) ≡ None → (t : Tree) × IsSection (section_bytes (ops_of items)) (ops_of items) t
 section bytes items size h e =
     let kept = section_kept (ops_of items) e in
-    let found = tree_stands (ops_of items) (is_one (ops_of items) kept.1) in
-    (found.0, record {
-      before = h.before;
-      kept = h.kept;
-      whole = h.whole;
-      spelled = refl;
-      limit = omega (arith, size_is bytes items size h, h.limit);
-      declared = kept.0;
-      reads = found.1;
-    })
+    let found = tree_stands (ops_of items) (is_one (ops_of items) kept.1) in (
+      found.0,
+      record {
+        before = h.before;
+        kept = h.kept;
+        whole = h.whole;
+        spelled = refl;
+        limit = omega (arith, size_is bytes items size h, h.limit);
+        declared = kept.0;
+        reads = found.1;
+      },
+    )
 
 pub placed_section : (bytes : List ℕ) (items : List (ℕ × Op)) (size : ℕ) → EndsAt bytes items size → first_refusal (section_rows (ops_of items)) ≡ None → ArePlaced items
 placed_section bytes items size h e =

@@ -1,12 +1,11 @@
 -- When bytes are refused as a dependency section: at the first place where an operation breaks a rule, and where
 -- none does, by what the operations up to END say together (UEFI 2.10, 23.2).
-use Rattle.std.specs.Prelude.{◌≡◌, ℕ, ◌+◌, ◌-◌, ◌≤◌, ◌⊎◌, Bool, ◌||◌, ◌&&◌, not, List, [], ◌∷◌, ◌++◌, length, take, drop, map, slice_index, nat_lt, ◌==◌, if◌then◌else◌, Option, None, Some, Result, Ok, Err}
+use Rattle.std.specs.Prelude.{◌≡◌, ℕ, ◌+◌, ◌-◌, ◌≤◌, ◌⊎◌, ◌||◌, ◌&&◌, not, List, [], ◌∷◌, ◌++◌, length, take, drop, map, slice_index, nat_lt, ◌==◌, if◌then◌else◌, Option, None, Some, Result, Ok, Err}
 use Rattle.std.specs.List.{range_with_len, prefix_len}
 use Rattle.cu_base.specs.Refusals.{Row, row, first_refusal}
 use Rattle.dep_code.specs.declared.limits.TheConstants.{MAX_SECTION_BYTES}
 use Rattle.dep_code.specs.declared.op.Op.{Op}
 use Rattle.dep_code.specs.declared.op.Op.TheVariants.{End}
-use Rattle.dep_code.specs.declared.fault.DepFault.{DepFault}
 use Rattle.dep_code.specs.declared.fault.DepRefusal.{DepRefusal}
 use Rattle.dep_code.specs.declared.fault.DepRefusal.TheVariants.{Dep, Memory}
 use Rattle.dep_code.specs.declared.fault.DepWhy.{DepWhy}
@@ -95,6 +94,12 @@ IsRefused bytes at why = BreaksOff bytes at why ⊎ EndsWrong bytes at why
 abbrev pub IsRefusalOf : DepRefusal → List ℕ → Type 0
 IsRefusalOf (Dep fault) bytes = IsRefused bytes fault.at fault.why
 IsRefusalOf Memory bytes = Unit {0}
+
+-- the answer is this section and length, or want of memory, which is free
+abbrev pub IsFound : List (ℕ × Op) → ℕ → Result (List (ℕ × Op) × ℕ) DepRefusal → Type 0
+IsFound items size (Ok x) = (x.0 ≡ items) × (x.1 ≡ size)
+IsFound items size (Err (Dep fault)) = ⊥
+IsFound items size (Err Memory) = Unit {0}
 
 -- the answer is Ok where nothing is refused, or this refusal, or want of memory, which is free
 abbrev pub Answers : {X : Type 0} → Result X DepRefusal → Option (ℕ × DepWhy) → Type 0

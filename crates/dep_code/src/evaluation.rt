@@ -25,11 +25,11 @@ pub enum Value {
 pub fn eval(alloc: Global, ops: &Ops, versions: &Versions) -> Result<bool, NoMemory>
     ensures { IfOk result (λ answer. IsAnswerOf (ops_of ops.now) versions.now.items answer) }
 {
-    let answer = answer(alloc, ops.as_slice(), versions.as_slice())?;
+    let answer = answer_of(alloc, ops.as_slice(), versions.as_slice())?;
     Ok(answer)
 }
 
-fn answer(alloc: Global, ops: &[(u32, Op)], versions: &[(Guid, u32)]) -> Result<bool, NoMemory>
+fn answer_of(alloc: Global, ops: &[(u32, Op)], versions: &[(Guid, u32)]) -> Result<bool, NoMemory>
     requires { ArePlaced ops.now }
     ensures { IfOk result (λ answer. IsAnswerOf (ops_of ops.now) versions.now answer) }
 {
@@ -60,7 +60,8 @@ fn knows(versions: &[(Guid, u32)], op: &Op) -> bool
 fn version_of(versions: &[(Guid, u32)], guid: &Guid) -> Option<u32>
     ensures { result ≡ version_of versions.now guid.now }
 {
-    versions.iter()
+    versions
+        .iter()
         .find(|pair| pair.0.bytes == guid.bytes)
         .map(|pair| pair.1)
 }

@@ -1,3 +1,5 @@
+ghost use Rattle.std.specs.Prelude.{◌≡◌};
+
 use cu_base::NoMemory;
 use thiserror::Error;
 
@@ -37,6 +39,15 @@ pub enum DepRefusal {
     Dep(DepFault),
     #[error("out of memory")]
     Memory,
+}
+
+impl DepRefusal {
+    /// The refusal at a place.
+    pub(crate) fn at(at: u32, why: DepWhy) -> DepRefusal
+        ensures { result ≡ DepRefusal.Dep (record { at = at; why = why }) }
+    {
+        DepRefusal::Dep(DepFault { at, why })
+    }
 }
 
 impl From<DepFault> for DepRefusal {

@@ -20,9 +20,9 @@ mod reading;
 mod stack;
 #[cfg(test)]
 mod tests;
+mod tree;
 mod typing;
 mod writing;
-mod tree;
 
 pub use building::tree_of;
 pub use evaluation::eval;
@@ -31,8 +31,8 @@ pub use limits::MAX_SECTION_BYTES;
 pub use op::Op;
 pub use ops::Ops;
 pub use read::read_ops;
-pub use writing::write_ops;
 pub use tree::{CompareKind, Compared, DepTree};
+pub use writing::write_ops;
 
 /// A list of pairs of GUID and version.
 pub type Versions = cu_base::Items<(cu_base::Guid, u32)>;

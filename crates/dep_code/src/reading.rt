@@ -7,7 +7,7 @@ ghost use Rattle.dep_code.specs.Operations.{HasForm, is_end, op_bytes};
 ghost use Rattle.dep_code.specs.Reading.{EndsAt};
 ghost use Rattle.dep_code.specs.Refusals.{Answers, IsRefusalOf, first_byte, op_size, place_rows, text_size};
 
-use crate::{DepFault, DepRefusal, DepWhy, MAX_SECTION_BYTES, Op};
+use crate::{DepRefusal, DepWhy, MAX_SECTION_BYTES, Op};
 use cu_base::{Blob, Guid, Items, NoMemory, read_u32};
 use std::alloc::Global;
 
@@ -44,31 +44,25 @@ fn check_place(rest: &[u8], at: u32) -> Result<usize, DepRefusal>
     ensures size { IfOk result (λ n. n ≡ op_size rest.now) }
 {
     if at == MAX_SECTION_BYTES {
-        return Err(refusal(at, DepWhy::TooLong));
+        return Err(DepRefusal::at(at, DepWhy::TooLong));
     }
     if rest.is_empty() {
-        return Err(refusal(at, DepWhy::NoEnd));
+        return Err(DepRefusal::at(at, DepWhy::NoEnd));
     }
     if rest[0] > 0x0E {
-        return Err(refusal(at, DepWhy::BadOpcode));
+        return Err(DepRefusal::at(at, DepWhy::BadOpcode));
     }
     let size = op_size(rest);
     if size > rest.len() {
-        return Err(refusal(at, DepWhy::CutOperand));
+        return Err(DepRefusal::at(at, DepWhy::CutOperand));
     }
     if at as usize + size > MAX_SECTION_BYTES as usize {
-        return Err(refusal(at, DepWhy::TooLong));
+        return Err(DepRefusal::at(at, DepWhy::TooLong));
     }
     if rest[0] == 0x0E && at > 0 {
-        return Err(refusal(at, DepWhy::LateDeclare));
+        return Err(DepRefusal::at(at, DepWhy::LateDeclare));
     }
     Ok(size)
-}
-
-fn refusal(at: u32, why: DepWhy) -> DepRefusal
-    ensures { result ≡ DepRefusal.Dep (record { at = at; why = why }) }
-{
-    DepRefusal::Dep(DepFault { at, why })
 }
 
 /// How many bytes the operation at the front takes. A text without a zero byte takes more than there are.
@@ -104,10 +98,7 @@ fn read_op(alloc: Global, rest: &[u8], size: usize) -> Result<Op, NoMemory>
     match rest[0] {
         0x00 => Ok(Op::PushGuid(guid_operand(rest))),
         0x01 => Ok(Op::PushVersion(number_operand(rest))),
-        0x02 => Ok(Op::VersionStr(Blob::from_slice(
-            alloc,
-            &rest[1..size - 1],
-        )?)),
+        0x02 => Ok(Op::VersionStr(Blob::from_slice(alloc, &rest[1..size - 1])?)),
         0x0E => Ok(Op::DeclareLength(number_operand(rest))),
         code => Ok(plain_op(code)),
     }

@@ -2,8 +2,8 @@
 //! may want memory.
 
 use crate::{
-    CompareKind, Compared, DepFault, DepRefusal, DepTree, DepWhy, Op, Ops, Versions, eval, read_ops,
-    tree_of, write_ops,
+    CompareKind, Compared, DepFault, DepRefusal, DepTree, DepWhy, Op, Ops, Versions, eval,
+    read_ops, tree_of, write_ops,
 };
 use cu_base::{Blob, Guid};
 use std::alloc::Global;

@@ -9,7 +9,7 @@ ghost use Rattle.dep_code.specs.Typing.{takes, gives, without, stack_behind, is_
 
 use crate::kind::Kind;
 use crate::stack::Stack;
-use crate::{DepFault, DepRefusal, DepWhy, Op};
+use crate::{DepRefusal, DepWhy, Op};
 use cu_base::NoMemory;
 use std::alloc::Global;
 
@@ -22,19 +22,13 @@ pub fn check_types(alloc: Global, ops: &[(u32, Op)]) -> Result<(), DepRefusal>
     let mut stack = Stack::new(alloc);
     for item in ops {
         if !apply(&mut stack, &item.1)? {
-            return Err(refusal(item.0, DepWhy::BadTypes));
+            return Err(DepRefusal::at(item.0, DepWhy::BadTypes));
         }
     }
     if !is_one_truth(stack) {
-        return Err(refusal(ops[ops.len() - 1].0, DepWhy::NotOneBool));
+        return Err(DepRefusal::at(ops[ops.len() - 1].0, DepWhy::NotOneBool));
     }
     Ok(())
-}
-
-fn refusal(at: u32, why: DepWhy) -> DepRefusal
-    ensures { result ≡ DepRefusal.Dep (record { at = at; why = why }) }
-{
-    DepRefusal::Dep(DepFault { at, why })
 }
 
 /// What an operation does to the stack, and whether it finds its operands there.

@@ -1,4 +1,4 @@
-use Rattle.std.proofs.Common.{[], arith, ap, refl, sym, ◌∙◌}
+use Rattle.std.proofs.Common.{[], arith, ap, refl, sym}
 use Rattle.dep_code.specs.Evaluation.{has_truth}
 use Rattle.dep_code.proofs.Evaluated.{computes_on, computed_more, all_computed, top_is}
 use Rattle.dep_code.proofs.Types.{IsItem}

@@ -6,7 +6,7 @@ use Rattle.dep_code.proofs.read.check_section.Goals as goal
 pub returns-then-not-is_declared : goal.returns-then-not-is_declared
 returns-then-not-is_declared c =
     let items = c.args.ops.now in
-    rows_wrong (ops_of items) (sym (declared_is items c.args.size c.requires.size) ∙ sym c.if-not-is_declared.ensures)
+    rw c.at.ensures (rows_wrong (ops_of items) (sym (declared_is items c.args.size c.requires.size) ∙ sym c.if-not-is_declared.ensures))
 
 pub returns : goal.returns
 returns c =

@@ -1,19 +1,11 @@
-use Rattle.std.proofs.Common.{◌≡◌, None, Err, List, ℕ, subst}
 use Rattle.std.proofs.lemmas.Result.{err_from_is_err_and}
-use Rattle.cu_base.specs.Refusals.{first_refusal}
-use Rattle.dep_code.specs.declared.op.Op.{Op}
-use Rattle.dep_code.specs.Refusals.{Answers, section_rows}
-use Rattle.dep_code.specs.Sections.{ops_of}
-use Rattle.dep_code.proofs.Wholes.{section_refused, placed_section, front_section}
+use Rattle.dep_code.proofs.LawLemmas.{found_one, not_refused}
 use Rattle.dep_code.proofs.read.read_ops.Goals as goal
 
-pub returns-in_err-check_section-clause-refused : goal.returns-in_err-check_section-clause-refused
-returns-in_err-check_section-clause-refused c =
-    let p = err_from_is_err_and c.from_residual-in_err-check_section.result c.from_residual-in_err-check_section.ensures.1 in
-    let rows = subst (λ (l : List (ℕ × Op)). Answers {X = ℕ} (Err c.in_err-check_section.field-0.0) (first_refusal (section_rows (ops_of l)))) c.as_slice.ensures c.in_err-check_section.ensures in
-    rw (p.1, p.2) (section_refused c.args.bytes.now c.in_ok-list.list.items c.in_ok-list.size c.in_err-check_section.field-0.0 c.in_ok-list.ensures.ok rows)
+pub returns-in_err-found-clause-only : goal.returns-in_err-found-clause-only
+returns-in_err-found-clause-only c =
+    let p = err_from_is_err_and c.from_residual.result c.from_residual.ensures.1 in
+    rw (p.1, p.2) (λ items size h. not_refused c.args.bytes.now items size c.in_err-found.field-0.0 h c.in_err-found.ensures.refused)
 
-pub of-requires : goal.of-requires
-of-requires c =
-    let rows = subst (λ (l : List (ℕ × Op)). first_refusal (section_rows (ops_of l)) ≡ None) c.as_slice.ensures c.in_ok-check_section.ensures in
-    placed_section c.args.bytes.now c.in_ok-list.list.items c.in_ok-list.size c.in_ok-list.ensures.ok rows
+pub returns-clause-only : goal.returns-clause-only
+returns-clause-only c = λ items size h. found_one c.args.bytes.now _ items _ size c.in_ok-found.ensures.section h

@@ -1,6 +1,6 @@
 use Rattle.std.proofs.Common.{sym}
 use Rattle.dep_code.proofs.Evaluated.{unknown, answered}
-use Rattle.dep_code.proofs.evaluation.answer.Goals as goal
+use Rattle.dep_code.proofs.evaluation.answer_of.Goals as goal
 
 pub returns-then-not-knows_all : goal.returns-then-not-knows_all
 returns-then-not-knows_all c = unknown c.args.versions.now c.args.ops.now c.requires (sym c.if-not-knows_all.ensures)
