@@ -78,7 +78,7 @@ head_of x xs rest zero e = absurd cc
 head_of x xs [] (suc size) e = absurd cc
 head_of x xs (b ∷ rest) (suc size) e = cc
 
-not_longer : (a b : ℕ) → nat_lt a b ≡ false → b ≤ a
+pub not_longer : (a b : ℕ) → nat_lt a b ≡ false → b ≤ a
 not_longer a b e = grind (arith, nat_tests)
 
 pub op_length : (op : Op) (rest : List ℕ) (size : ℕ) → op_bytes op ≡ take size rest → size ≤ length rest → length (op_bytes op) ≡ size

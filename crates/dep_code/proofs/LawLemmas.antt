@@ -14,6 +14,7 @@ use Rattle.dep_code.specs.Operations.{op_bytes, section_bytes}
 use Rattle.dep_code.specs.Refusals.{place_rows, type_row, type_rows, section_rows, BreaksOff, EndsWrong, IsRefused, IsRefusalOf, IsFound}
 use Rattle.dep_code.specs.Sections.{IsSection, AreBeforeEnd, StandsAtFront, ops_of, placed}
 use Rattle.dep_code.specs.Tree.{Tree}
+use Rattle.dep_code.specs.Trees.{IsTreeOf}
 use Rattle.dep_code.specs.Typing.{is_one_truth, is_typed, leaves_one_truth}
 use Rattle.dep_code.proofs.Apart.{keeps_rows}
 use Rattle.dep_code.proofs.Entries.{after_tree, after_kinds, kinds_of}
@@ -87,10 +88,18 @@ front_typed ops t k e =
     let parts : option_and_then (λ n. entries_after n (drop k ops)) (entries_after [] (take k ops)) ≡ Some (Subtree t ∷ []) = sym (entries_append (take k ops) (drop k ops) []) ∙ ap (entries_after []) (take-append-drop k ops) ∙ e in
     ap is_some (sym (after_kinds (take k ops) [])) ∙ some_kinds (entries_after [] (take k ops)) (first_some _ _ _ parts)
 
+pub tree_typed : (ops : List Op) (t : Tree) → IsTreeOf t ops → leaves_one_truth ops ≡ true
+tree_typed ops t e = ap is_one_truth (sym (after_kinds ops []) ∙ ap (option_map kinds_of) (after_tree t ops e))
+
+pub one_tree_lemma : (ops : List Op) (tree other : Tree) → IsTreeOf tree ops → IsTreeOf other ops → tree ≡ other
+one_tree_lemma ops tree other ha hb =
+    let trees : Some (Subtree tree ∷ []) ≡ Some (Subtree other ∷ []) = sym (after_tree tree ops ha) ∙ after_tree other ops hb in
+    cc
+
 pub section_keeps : (bytes : List ℕ) (ops : List Op) (t : Tree) → IsSection bytes ops t → first_refusal (section_rows ops) ≡ None
 section_keeps bytes ops t h =
     let e = after_tree t ops h.reads in
-    let one : leaves_one_truth ops ≡ true = ap is_one_truth (sym (after_kinds ops []) ∙ ap (option_map kinds_of) e) in
+    let one = tree_typed ops t h.reads in
     let types : first_refusal (type_rows ops) ≡ None = none_in (type_row ops) _ 0 (length ops) (λ j low high. ap not (front_typed ops t (j + 1) e)) ∙ rw one refl in
     rw (h.declared, types) refl
 

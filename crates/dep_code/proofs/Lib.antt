@@ -1,5 +1,6 @@
 pub mod Apart
 pub mod Bytes
+pub mod Decided
 pub mod Entries
 pub mod Evaluated
 pub mod Fronts
