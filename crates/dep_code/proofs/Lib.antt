@@ -1,0 +1,11 @@
+pub mod Apart
+pub mod Bytes
+pub mod Decided
+pub mod Entries
+pub mod Evaluated
+pub mod Fronts
+pub mod LawLemmas
+pub mod Loops
+pub mod Same
+pub mod Types
+pub mod Wholes

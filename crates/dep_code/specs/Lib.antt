@@ -1,0 +1,10 @@
+pub mod Building
+pub mod Evaluation
+pub mod Operations
+pub mod Reading
+pub mod Refusals
+pub mod Sections
+pub mod Tree
+pub mod Trees
+pub mod Typing
+pub mod Values
