@@ -1,5 +1,5 @@
 -- The place of a refused section lies within its bytes.
-use Rattle.std.proofs.Common.{◌≡◌, ℕ, zero, suc, ◌+◌, ◌-◌, ◌≤◌, Bool, true, false, cond, List, [], ◌∷◌, ◌++◌, length, take, map, Option, Some, None, inl, inr, refl, sym, ap, subst, ◌∙◌, arith}
+use Rattle.std.proofs.Common.{◌≡◌, ℕ, zero, suc, ◌+◌, ◌-◌, ◌≤◌, Bool, true, false, cond, List, [], ◌∷◌, ◌++◌, length, take, map, Option, Some, None, inl, inr, ap, subst, ◌∙◌, arith}
 use Rattle.std.specs.List.{range_with_len, AllByRecursion}
 use Rattle.std.proofs.lemmas.List.{length-append}
 use Rattle.cu_base.specs.Refusals.{Row, first_refusal}
@@ -10,7 +10,7 @@ use Rattle.dep_code.specs.declared.fault.DepRefusal.{DepRefusal}
 use Rattle.dep_code.specs.declared.fault.DepRefusal.TheVariants.{Dep}
 use Rattle.dep_code.specs.declared.fault.DepWhy.{DepWhy}
 use Rattle.dep_code.specs.Operations.{op_bytes, section_bytes}
-use Rattle.dep_code.specs.Refusals.{BreaksOff, EndsWrong, IsRefused, IsRefusalOf, place_of, place_rows, section_rows, type_row}
+use Rattle.dep_code.specs.Refusals.{BreaksOff, EndsWrong, IsRefused, IsRefusalOf, place_rows, section_rows, type_row}
 use Rattle.dep_code.proofs.Fronts.{bytes_push}
 
 -- the row tells a place of at most n

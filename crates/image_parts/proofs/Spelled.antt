@@ -1,12 +1,12 @@
 -- What is cut is spelled: the parts at their places, one behind another, are the image.
-use Rattle.std.proofs.Common.{◌≡◌, ℕ, ◌+◌, ◌-◌, ◌^◌, ◌<◌, ◌≤◌, Bool, true, false, cond, List, [], ◌∷◌, ◌++◌, length, take, drop, Option, Some, None, is_some, IfSome, refl, sym, ap, subst, ◌∙◌, arith, append_assoc}
+use Rattle.std.proofs.Common.{◌≡◌, ℕ, ◌+◌, ◌-◌, ◌≤◌, Bool, true, false, cond, List, [], ◌++◌, length, take, drop, Some, None, is_some, IfSome, refl, sym, ap, subst, ◌∙◌, arith, append_assoc}
 use Rattle.std.proofs.lemmas.Bool.{ltb-false, or_parts, not-false, eqb-true}
 use Rattle.std.proofs.lemmas.List.{take-append-drop}
 use Rattle.std.proofs.lemmas.Slice.Eq.{bytes_eq-Decides}
 use Rattle.cu_base.specs.Fields.{field, number_at, bytes_of}
 use Rattle.cu_base.specs.Refusals.{first_refusal}
 use Rattle.fmp_headers.specs.Bytes.{IsBytes}
-use Rattle.fmp_headers.proofs.Fields.{IsBytes-drop, length-field, next_field, next_number, number_at-below, take_field}
+use Rattle.fmp_headers.proofs.Fields.{IsBytes-drop, length-field, next_field, next_number, number_at-below}
 use Rattle.fmp_headers.proofs.Rows.{passed}
 use Rattle.image_parts.specs.Cuts.{IsCutInto, auth_end, behind_section}
 use Rattle.image_parts.specs.Parts.{IsPartsOf, auth_bytes, dep_bytes}

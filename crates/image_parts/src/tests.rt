@@ -232,15 +232,16 @@ fn wrong_payload_headers_are_refused(rt: HostRuntime) -> Result<(), Fail> {
     let alloc = rt.alloc();
     refused(&rt, alloc, &[], 0, 0, PartWhy::ShortPayloadHeader);
     refused(&rt, alloc, &PLAIN[..15], 0, 0, PartWhy::ShortPayloadHeader);
-    let both = joined(alloc, &[&AUTH, &[0x06, 0x0d], &PLAIN])?;
+    let short = joined(alloc, &[&AUTH, &[0x06, 0x0d], &PLAIN[..15]])?;
     refused(
         &rt,
         alloc,
-        &both.as_slice()[..52],
+        short.as_slice(),
         3,
         37,
         PartWhy::ShortPayloadHeader,
     );
+    let both = joined(alloc, &[&AUTH, &[0x06, 0x0d], &PLAIN])?;
     let cases = [
         (40usize, 0x32u8, 37u32, PartWhy::BadSignature),
         (41, 15, 41, PartWhy::BadPayloadHeaderSize),
