@@ -1,4 +1,4 @@
--- The authentication data of an update image, EFI_FIRMWARE_IMAGE_AUTHENTICATION (UEFI 2.10, 23.1.2): MonotonicCount
+-- The authentication data of an update image, EFI_FIRMWARE_IMAGE_AUTHENTICATION (UEFI 2.10, 23.1): MonotonicCount
 -- in 8 bytes, then WIN_CERTIFICATE_UEFI_GUID: dwLength in 4, wRevision and wCertificateType in 2 each, CertType in
 -- 16, and CertData. dwLength counts from its own place.
 use Rattle.std.specs.Prelude.{◌≡◌, ℕ, ◌+◌, ◌-◌, ◌^◌, ◌<◌, Bool, ◌||◌, not, List, [], ◌∷◌, ◌++◌, length, nat_lt, ◌==◌}

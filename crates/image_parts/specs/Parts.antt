@@ -1,4 +1,4 @@
--- The parts of an update image (UEFI 2.10, 23.1.2 and 23.2; EDK II, FmpDevicePkg), as they are written one behind
+-- The parts of an update image (UEFI 2.10, 23.1 and 23.2; EDK II, FmpDevicePkg), as they are written one behind
 -- another. No length is followed: each stands for what its bytes are.
 use Rattle.std.specs.Prelude.{◌≡◌, ℕ, List, [], ◌++◌, Option, None, Some, is_some, IfSome}
 use Rattle.image_parts.specs.Authentication.{authentication_bytes, IsAuthentication}

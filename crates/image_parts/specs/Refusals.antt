@@ -8,9 +8,11 @@ use Rattle.image_parts.specs.declared.fault.PartRefusal.{PartRefusal}
 use Rattle.image_parts.specs.declared.fault.PartRefusal.TheVariants.{Part, Memory}
 use Rattle.image_parts.specs.declared.fault.PartWhy.{PartWhy}
 use Rattle.image_parts.specs.declared.fault.PartWhy.TheVariants.{Dep}
+use Rattle.image_parts.specs.declared.value.Parts.{Parts}
 use Rattle.image_parts.specs.Cuts.{auth_end, auth_rows, behind_auth, head_rows}
 use Rattle.image_parts.specs.Section.{TakesSection}
 use Rattle.image_parts.specs.Support.{has_section}
+use Rattle.image_parts.specs.Values.{PartsValue, parts_seen}
 
 -- the authentication data is refused
 abbrev pub RefusesAuth : List ℕ → ℕ → ℕ → PartWhy → Type 0
@@ -51,6 +53,12 @@ IsSectionRefusal Memory bytes start = Unit {0}
 abbrev pub IsRefusalOf : PartRefusal → List ℕ → ℕ → Type 0
 IsRefusalOf (Part fault) image support = IsRefused image support fault.at fault.why
 IsRefusalOf Memory image support = Unit {0}
+
+-- the answer is these parts, or want of memory, which is free
+abbrev pub IsFound : PartsValue → Result Parts PartRefusal → Type 0
+IsFound p (Ok found) = parts_seen found ≡ p
+IsFound p (Err (Part fault)) = ⊥
+IsFound p (Err Memory) = Unit {0}
 
 -- the answer is Ok where nothing is refused, and else it is this refusal
 abbrev pub Answers : {X : Type 0} → Result X PartFault → Option (ℕ × PartWhy) → Type 0

@@ -4,9 +4,9 @@ ghost use Rattle.std.specs.Prelude.{◌≡◌, ◌<◌, ◌^◌, IfOk, IfErr, Is
 ghost use Rattle.image_parts.specs.declared.fault.PartRefusal.TheVariants.{Memory};
 ghost use Rattle.image_parts.specs.Cuts.{IsCutInto};
 ghost use Rattle.image_parts.specs.Parts.{IsPartsOf};
-ghost use Rattle.image_parts.specs.Refusals.{IsRefusalOf};
+ghost use Rattle.image_parts.specs.Refusals.{IsFound, IsRefusalOf};
 ghost use Rattle.image_parts.specs.Support.{has_section};
-ghost use Rattle.image_parts.specs.Values.{parts_seen};
+ghost use Rattle.image_parts.specs.Values.{PartsValue, parts_seen};
 
 use crate::authentication::read_auth;
 use crate::payload_header::{FIELD_BYTES, read_head};
@@ -18,6 +18,17 @@ use std::alloc::Global;
 pub fn split<'a>(alloc: Global, image: &'a [u8], support: u64) -> Result<Parts<'a>, PartRefusal>
     requires { length image.now < 2 ^ 32 }
     ensures parts { IfOk result (λ p. IsPartsOf image.now support (parts_seen p)) }
+    ensures places { IfOk result (λ p. IsCutInto image.now support (parts_seen p)) }
+    ensures only { (p : PartsValue) → IsPartsOf image.now support p → IsFound p result }
+    ensures refused { IfErr result (λ e. IsRefusalOf e image.now support) }
+    ensures memory { IsErrOf result Memory → IsTrue (has_section support) }
+{
+    cut(alloc, image, support)
+}
+
+/// The parts at their places.
+fn cut<'a>(alloc: Global, image: &'a [u8], support: u64) -> Result<Parts<'a>, PartRefusal>
+    requires { length image.now < 2 ^ 32 }
     ensures places { IfOk result (λ p. IsCutInto image.now support (parts_seen p)) }
     ensures refused { IfErr result (λ e. IsRefusalOf e image.now support) }
     ensures memory { IsErrOf result Memory → IsTrue (has_section support) }

@@ -1,4 +1,4 @@
-//! Images written by hand from the tables of UEFI 2.10, 23.1.2 and 23.2 and of EDK II's payload header, and admission
+//! Images written by hand from the tables of UEFI 2.10, 23.1 and 23.2 and of EDK II's payload header, and admission
 //! by digests that another program computed.
 
 use crate::{AuthParts, PartFault, PartRefusal, PartWhy, Parts, PayloadHead, is_admitted, split};

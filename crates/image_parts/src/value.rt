@@ -15,7 +15,7 @@ pub struct Parts<'a> {
     pub payload: &'a [u8],
 }
 
-/// Authentication data, EFI_FIRMWARE_IMAGE_AUTHENTICATION (UEFI 2.10, 23.1.2).
+/// Authentication data, EFI_FIRMWARE_IMAGE_AUTHENTICATION (UEFI 2.10, 23.1).
 #[derive(Clone, Copy, Debug, PartialEq, Eq)]
 pub struct AuthParts<'a> {
     /// MonotonicCount.
