@@ -1,0 +1,12 @@
+use Rattle.std.proofs.Common.{arith}
+use Rattle.fmp_headers.specs.Bytes.{IsBytes}
+use Rattle.image_parts.proofs.Found.{found_only, found_parts}
+use Rattle.image_parts.proofs.splitting.split.Goals as goal
+
+pub returns-clause-parts : goal.returns-clause-parts
+returns-clause-parts c =
+    let is : IsBytes c.args.image.now = λ i. omega (arith, c.type_inv.image i) in
+    found_parts c.args.image.now c.args.support c.cut.result is c.cut.ensures.places
+
+pub returns-clause-only : goal.returns-clause-only
+returns-clause-only c = found_only c.args.image.now c.args.support c.cut.result c.cut.ensures.places c.cut.ensures.refused

@@ -1,0 +1,50 @@
+-- The authentication data of an update image, EFI_FIRMWARE_IMAGE_AUTHENTICATION (UEFI 2.10, 23.1): MonotonicCount
+-- in 8 bytes, then WIN_CERTIFICATE_UEFI_GUID: dwLength in 4, wRevision and wCertificateType in 2 each, CertType in
+-- 16, and CertData. dwLength counts from its own place.
+use Rattle.std.specs.Prelude.{◌≡◌, ℕ, ◌+◌, ◌-◌, ◌^◌, ◌<◌, Bool, ◌||◌, not, List, [], ◌∷◌, ◌++◌, length, nat_lt, ◌==◌}
+use Rattle.cu_base.specs.Fields.{field, number_at, bytes_of}
+use Rattle.cu_base.specs.Refusals.{Row, row}
+use Rattle.image_parts.specs.declared.fault.PartWhy.{PartWhy}
+use Rattle.image_parts.specs.declared.fault.PartWhy.TheVariants.{ShortAuth, BadAuthLength, BadRevision, BadCertType}
+use Rattle.image_parts.specs.Values.{AuthValue}
+
+-- dwLength, the number at 8
+abbrev pub certificate_size : List ℕ → ℕ
+certificate_size image = number_at image 8 4
+
+-- MonotonicCount and what dwLength counts
+abbrev pub authentication_size : List ℕ → ℕ
+authentication_size image = 8 + certificate_size image
+
+-- dwLength below the fields that it counts, or past the end of the image
+abbrev pub has_bad_length : List ℕ → Bool
+has_bad_length image = nat_lt (certificate_size image) 24 || nat_lt (length image) (authentication_size image)
+
+-- when authentication data is refused, in order
+abbrev pub authentication_rows : List ℕ → List (Row PartWhy)
+authentication_rows image =
+    row (nat_lt (length image) 32) 0 ShortAuth
+    ∷ row (has_bad_length image) 8 BadAuthLength
+    ∷ row (not (number_at image 12 2 == 0x0200)) 12 BadRevision
+    ∷ row (not (number_at image 14 2 == 0x0EF1)) 14 BadCertType
+    ∷ []
+
+-- the fields at their places, and CertData up to the end that dwLength gives
+abbrev pub authentication_at : List ℕ → AuthValue
+authentication_at image = record {
+  monotonic = number_at image 0 8;
+  cert_type = record { bytes = field image 16 16 };
+  cert = field image 32 (authentication_size image - 32);
+}
+
+-- the bytes of authentication data, by the lengths of its value: wRevision is 0x0200, wCertificateType is 0x0EF1
+abbrev pub authentication_bytes : AuthValue → List ℕ
+authentication_bytes a =
+    bytes_of 8 a.monotonic ++ bytes_of 4 (24 + length a.cert) ++ bytes_of 2 0x0200 ++ bytes_of 2 0x0EF1
+    ++ a.cert_type.bytes ++ a.cert
+
+-- each field has its width
+pub record IsAuthentication (a : AuthValue) : Type 0 where
+  pub monotonic : a.monotonic < 2 ^ 64
+  pub cert_type : length a.cert_type.bytes ≡ 16
+  pub cert : 24 + length a.cert < 2 ^ 32

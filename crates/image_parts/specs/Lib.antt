@@ -1,0 +1,9 @@
+pub mod Admission
+pub mod Authentication
+pub mod Cuts
+pub mod Parts
+pub mod PayloadHeader
+pub mod Refusals
+pub mod Section
+pub mod Support
+pub mod Values

@@ -1,0 +1,83 @@
+//! The authentication data at the front of an image.
+
+ghost use Rattle.std.specs.Prelude.{◌≡◌, ◌≤◌, length, IfOk, option_map};
+ghost use Rattle.cu_base.specs.Refusals.{first_refusal};
+ghost use Rattle.image_parts.specs.Authentication.{authentication_at, authentication_rows, authentication_size};
+ghost use Rattle.image_parts.specs.Cuts.{auth_at, auth_end, auth_rows};
+ghost use Rattle.image_parts.specs.Refusals.{Answers};
+ghost use Rattle.image_parts.specs.Values.{auth_seen};
+
+use crate::support::has_authentication;
+use crate::{AuthParts, PartFault, PartWhy};
+use fmp_headers::{guid_at, u16_at, u32_at, u64_at};
+
+/// The bytes up to CertData: MonotonicCount and the fields of WIN_CERTIFICATE_UEFI_GUID.
+const AUTHENTICATION_BYTES: usize = 32;
+
+/// The bytes before dwLength, which it does not count.
+const BEFORE_LENGTH: usize = 8;
+
+/// wRevision.
+const REVISION: u16 = 0x0200;
+
+/// WIN_CERT_TYPE_EFI_GUID, wCertificateType.
+const CERTIFICATE_TYPE: u16 = 0x0EF1;
+
+/// The authentication data, where it is due, and where it ends.
+pub fn read_auth(image: &[u8], support: u64) -> Result<(Option<AuthParts<'_>>, usize), PartFault>
+    ensures rows { Answers result (first_refusal (auth_rows image.now support)) }
+    ensures end { IfOk result (λ x. x.1 ≡ auth_end image.now support) }
+    ensures within { IfOk result (λ x. x.1 ≤ length image.now) }
+    ensures value { IfOk result (λ x. option_map auth_seen x.0 ≡ auth_at image.now support) }
+{
+    if !has_authentication(support) {
+        return Ok((None, 0));
+    }
+    match check_authentication(image) {
+        Ok(end) => Ok((Some(authentication_at(image, end)), end)),
+        Err(fault) => Err(fault),
+    }
+}
+
+/// Where the authentication data ends, or what is wrong with it.
+fn check_authentication(image: &[u8]) -> Result<usize, PartFault>
+    ensures rows { Answers result (first_refusal (authentication_rows image.now)) }
+    ensures end { IfOk result (λ n. n ≡ authentication_size image.now) }
+    ensures fields { IfOk result (λ n. AUTHENTICATION_BYTES ≤ n) }
+    ensures within { IfOk result (λ n. n ≤ length image.now) }
+{
+    if image.len() < AUTHENTICATION_BYTES {
+        return Err(fault(0, PartWhy::ShortAuth));
+    }
+    let end = BEFORE_LENGTH + u32_at(image, 8) as usize;
+    if end < AUTHENTICATION_BYTES || image.len() < end {
+        return Err(fault(8, PartWhy::BadAuthLength));
+    }
+    if u16_at(image, 12) != REVISION {
+        return Err(fault(12, PartWhy::BadRevision));
+    }
+    if u16_at(image, 14) != CERTIFICATE_TYPE {
+        return Err(fault(14, PartWhy::BadCertType));
+    }
+    Ok(end)
+}
+
+fn fault(at: u32, why: PartWhy) -> PartFault
+    ensures { result ≡ record { at = at; why = why } }
+{
+    PartFault { at, why }
+}
+
+/// The authentication data that ends there.
+fn authentication_at(image: &[u8], end: usize) -> AuthParts<'_>
+    requires end { end ≡ authentication_size image.now }
+    requires fields { AUTHENTICATION_BYTES ≤ end }
+    requires within { end ≤ length image.now }
+    ensures { auth_seen result ≡ authentication_at image.now }
+{
+    AuthParts {
+        monotonic: u64_at(image, 0),
+        cert_type: guid_at(image, 16),
+        cert: &image[AUTHENTICATION_BYTES..end],
+    }
+}

@@ -1,0 +1,47 @@
+//! The payload header behind authentication data and section.
+
+ghost use Rattle.std.specs.Prelude.{◌≡◌, ◌+◌, ◌≤◌, ◌<◌, ◌^◌, OnOk, IfOk, length};
+ghost use Rattle.cu_base.specs.Refusals.{first_refusal};
+ghost use Rattle.image_parts.specs.PayloadHeader.{header_size, payload_head_at, payload_header_rows};
+ghost use Rattle.image_parts.specs.Refusals.{Answers};
+
+use crate::{PartFault, PartWhy, PayloadHead};
+use fmp_headers::u32_at;
+
+/// The bytes of the fields: signature, HeaderSize, FwVersion and LowestSupportedVersion.
+pub const FIELD_BYTES: usize = 16;
+
+/// The signature.
+const SIGNATURE: [u8; 4] = *b"MSS1";
+
+/// The payload header at the front of bytes, which begin at place `start` of the image.
+pub fn read_head(rest: &[u8], start: usize) -> Result<PayloadHead, PartFault>
+    requires { start + length rest.now < 2 ^ 32 }
+    ensures rows { Answers result (first_refusal (payload_header_rows rest.now start)) }
+    ensures value { IfOk result (λ head. head ≡ payload_head_at rest.now) }
+    ensures fields { IfOk result (λ head. FIELD_BYTES ≤ head.header_size) }
+    ensures within { IfOk result (λ head. head.header_size ≤ length rest.now) }
+{
+    let at = start as u32;
+    if rest.len() < FIELD_BYTES {
+        return Err(fault(at, PartWhy::ShortPayloadHeader));
+    }
+    if &rest[..4] != SIGNATURE.as_slice() {
+        return Err(fault(at, PartWhy::BadSignature));
+    }
+    let header_size = u32_at(rest, 4);
+    if (header_size as usize) < FIELD_BYTES || rest.len() < header_size as usize {
+        return Err(fault(at + 4, PartWhy::BadPayloadHeaderSize));
+    }
+    Ok(PayloadHead {
+        header_size,
+        version: u32_at(rest, 8),
+        lowest: u32_at(rest, 12),
+    })
+}
+
+fn fault(at: u32, why: PartWhy) -> PartFault
+    ensures { result ≡ record { at = at; why = why } }
+{
+    PartFault { at, why }
+}

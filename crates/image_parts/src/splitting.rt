@@ -1,0 +1,56 @@
+//! An image cut into its parts.
+
+ghost use Rattle.std.specs.Prelude.{◌≡◌, ◌<◌, ◌^◌, IfOk, IfErr, IsErrOf, IsTrue, length};
+ghost use Rattle.image_parts.specs.declared.fault.PartRefusal.TheVariants.{Memory};
+ghost use Rattle.image_parts.specs.Cuts.{IsCutInto};
+ghost use Rattle.image_parts.specs.Parts.{IsPartsOf};
+ghost use Rattle.image_parts.specs.Refusals.{IsFound, IsRefusalOf};
+ghost use Rattle.image_parts.specs.Support.{has_section};
+ghost use Rattle.image_parts.specs.Values.{PartsValue, parts_seen};
+
+use crate::authentication::read_auth;
+use crate::payload_header::{FIELD_BYTES, read_head};
+use crate::section::{section_at, section_size};
+use crate::{PartRefusal, Parts};
+use std::alloc::Global;
+
+/// The parts of the image of this support, which are slices of it. Want of memory comes only where a section is due.
+pub fn split<'a>(alloc: Global, image: &'a [u8], support: u64) -> Result<Parts<'a>, PartRefusal>
+    requires { length image.now < 2 ^ 32 }
+    ensures parts { IfOk result (λ p. IsPartsOf image.now support (parts_seen p)) }
+    ensures places { IfOk result (λ p. IsCutInto image.now support (parts_seen p)) }
+    ensures only { (p : PartsValue) → IsPartsOf image.now support p → IsFound p result }
+    ensures refused { IfErr result (λ e. IsRefusalOf e image.now support) }
+    ensures memory { IsErrOf result Memory → IsTrue (has_section support) }
+{
+    cut(alloc, image, support)
+}
+
+/// The parts at their places.
+fn cut<'a>(alloc: Global, image: &'a [u8], support: u64) -> Result<Parts<'a>, PartRefusal>
+    requires { length image.now < 2 ^ 32 }
+    ensures places { IfOk result (λ p. IsCutInto image.now support (parts_seen p)) }
+    ensures refused { IfErr result (λ e. IsRefusalOf e image.now support) }
+    ensures memory { IsErrOf result Memory → IsTrue (has_section support) }
+{
+    let (auth, end) = match read_auth(image, support) {
+        Ok(read) => read,
+        Err(fault) => return Err(PartRefusal::Part(fault)),
+    };
+    let size = match section_size(alloc, &image[end..], end, support) {
+        Ok(size) => size,
+        Err(refusal) => return Err(refusal),
+    };
+    let rest = &image[end + size..];
+    let head = match read_head(rest, end + size) {
+        Ok(head) => head,
+        Err(fault) => return Err(PartRefusal::Part(fault)),
+    };
+    Ok(Parts {
+        auth,
+        dep: section_at(image, end, size, support),
+        head,
+        extra: &rest[FIELD_BYTES..head.header_size as usize],
+        payload: &rest[head.header_size as usize..],
+    })
+}
