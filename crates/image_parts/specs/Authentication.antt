@@ -20,14 +20,19 @@ authentication_size image = 8 + certificate_size image
 abbrev pub has_bad_length : List ℕ → Bool
 has_bad_length image = nat_lt (certificate_size image) 24 || nat_lt (length image) (authentication_size image)
 
+-- the rows of wRevision and wCertificateType
+abbrev pub certificate_rows : List ℕ → List (Row PartWhy)
+certificate_rows image =
+    row (not (number_at image 12 2 == 0x0200)) 12 BadRevision
+    ∷ row (not (number_at image 14 2 == 0x0EF1)) 14 BadCertType
+    ∷ []
+
 -- when authentication data is refused, in order
 abbrev pub authentication_rows : List ℕ → List (Row PartWhy)
 authentication_rows image =
     row (nat_lt (length image) 32) 0 ShortAuth
     ∷ row (has_bad_length image) 8 BadAuthLength
-    ∷ row (not (number_at image 12 2 == 0x0200)) 12 BadRevision
-    ∷ row (not (number_at image 14 2 == 0x0EF1)) 14 BadCertType
-    ∷ []
+    ∷ certificate_rows image
 
 -- the fields at their places, and CertData up to the end that dwLength gives
 abbrev pub authentication_at : List ℕ → AuthValue

@@ -2,7 +2,7 @@
 
 ghost use Rattle.std.specs.Prelude.{◌≡◌, ◌≤◌, length, IfOk, option_map};
 ghost use Rattle.cu_base.specs.Refusals.{first_refusal};
-ghost use Rattle.image_parts.specs.Authentication.{authentication_at, authentication_rows, authentication_size};
+ghost use Rattle.image_parts.specs.Authentication.{authentication_at, authentication_rows, authentication_size, certificate_rows};
 ghost use Rattle.image_parts.specs.Cuts.{auth_at, auth_end, auth_rows};
 ghost use Rattle.image_parts.specs.Refusals.{Answers};
 ghost use Rattle.image_parts.specs.Values.{auth_seen};
@@ -53,13 +53,24 @@ fn check_authentication(image: &[u8]) -> Result<usize, PartFault>
     if end < AUTHENTICATION_BYTES || image.len() < end {
         return Err(fault(8, PartWhy::BadAuthLength));
     }
+    match check_certificate(image) {
+        Ok(()) => Ok(end),
+        Err(fault) => Err(fault),
+    }
+}
+
+/// Whether wRevision and wCertificateType are those of WIN_CERTIFICATE_UEFI_GUID.
+fn check_certificate(image: &[u8]) -> Result<(), PartFault>
+    requires { AUTHENTICATION_BYTES ≤ length image.now }
+    ensures { Answers result (first_refusal (certificate_rows image.now)) }
+{
     if u16_at(image, 12) != REVISION {
         return Err(fault(12, PartWhy::BadRevision));
     }
     if u16_at(image, 14) != CERTIFICATE_TYPE {
         return Err(fault(14, PartWhy::BadCertType));
     }
-    Ok(end)
+    Ok(())
 }
 
 fn fault(at: u32, why: PartWhy) -> PartFault
