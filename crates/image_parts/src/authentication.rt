@@ -47,11 +47,11 @@ fn check_authentication(image: &[u8]) -> Result<usize, PartFault>
     ensures within { IfOk result (λ n. n ≤ length image.now) }
 {
     if image.len() < AUTHENTICATION_BYTES {
-        return Err(fault(0, PartWhy::ShortAuth));
+        return Err(PartFault::new(0, PartWhy::ShortAuth));
     }
     let end = BEFORE_LENGTH + u32_at(image, 8) as usize;
     if end < AUTHENTICATION_BYTES || image.len() < end {
-        return Err(fault(8, PartWhy::BadAuthLength));
+        return Err(PartFault::new(8, PartWhy::BadAuthLength));
     }
     match check_certificate(image) {
         Ok(()) => Ok(end),
@@ -65,18 +65,12 @@ fn check_certificate(image: &[u8]) -> Result<(), PartFault>
     ensures { Answers result (first_refusal (certificate_rows image.now)) }
 {
     if u16_at(image, 12) != REVISION {
-        return Err(fault(12, PartWhy::BadRevision));
+        return Err(PartFault::new(12, PartWhy::BadRevision));
     }
     if u16_at(image, 14) != CERTIFICATE_TYPE {
-        return Err(fault(14, PartWhy::BadCertType));
+        return Err(PartFault::new(14, PartWhy::BadCertType));
     }
     Ok(())
-}
-
-fn fault(at: u32, why: PartWhy) -> PartFault
-    ensures { result ≡ record { at = at; why = why } }
-{
-    PartFault { at, why }
 }
 
 /// The authentication data that ends there.

@@ -1,3 +1,5 @@
+ghost use Rattle.std.specs.Prelude.{◌≡◌};
+
 use dep_code::DepWhy;
 use thiserror::Error;
 
@@ -28,6 +30,15 @@ pub enum PartWhy {
 pub struct PartFault {
     pub at: u32,
     pub why: PartWhy,
+}
+
+impl PartFault {
+    /// The fault of this cause at this place.
+    pub(crate) fn new(at: u32, why: PartWhy) -> PartFault
+        ensures { result ≡ record { at = at; why = why } }
+    {
+        PartFault { at, why }
+    }
 }
 
 /// Why an image was not split.

@@ -24,24 +24,18 @@ pub fn read_head(rest: &[u8], start: usize) -> Result<PayloadHead, PartFault>
 {
     let at = start as u32;
     if rest.len() < FIELD_BYTES {
-        return Err(fault(at, PartWhy::ShortPayloadHeader));
+        return Err(PartFault::new(at, PartWhy::ShortPayloadHeader));
     }
     if &rest[..4] != SIGNATURE.as_slice() {
-        return Err(fault(at, PartWhy::BadSignature));
+        return Err(PartFault::new(at, PartWhy::BadSignature));
     }
     let header_size = u32_at(rest, 4);
     if (header_size as usize) < FIELD_BYTES || rest.len() < header_size as usize {
-        return Err(fault(at + 4, PartWhy::BadPayloadHeaderSize));
+        return Err(PartFault::new(at + 4, PartWhy::BadPayloadHeaderSize));
     }
     Ok(PayloadHead {
         header_size,
         version: u32_at(rest, 8),
         lowest: u32_at(rest, 12),
     })
-}
-
-fn fault(at: u32, why: PartWhy) -> PartFault
-    ensures { result ≡ record { at = at; why = why } }
-{
-    PartFault { at, why }
 }
