@@ -9,6 +9,7 @@ mod board;
 mod choice;
 mod device;
 mod devices;
+pub mod laws;
 mod limits;
 mod names;
 #[cfg(test)]
@@ -19,7 +20,8 @@ pub use choice::Choice;
 pub use device::Device;
 pub use devices::Devices;
 pub use limits::{
-    BANK_BASE, MAX_BANK, MAX_CAPACITY, MAX_DEVICE_NAME, MAX_DEVICES, MAX_DIGESTS, MAX_FW_TYPE,
-    MAX_INSTANCE, MIN_BANK, MIN_CAPACITY, RESULT_ROOM,
+    BANK_BASE, MAX_BANK, MAX_CAPACITIES, MAX_CAPACITY, MAX_DEVICE_NAME, MAX_DEVICES, MAX_DIGESTS,
+    MAX_FW_TYPE, MAX_INSTANCE, MAX_STORE, MAX_TWO_BANK_CAPACITIES, MIN_BANK, MIN_CAPACITY, MIN_STORE,
+    RESULT_ROOM,
 };
 pub use names::is_device_name;
