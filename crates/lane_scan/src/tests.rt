@@ -1,8 +1,12 @@
+ghost use Rattle.std.specs.Prelude.{◌≤◌};
+
 use crate::{first_apart, first_unlike};
 use std::process::Abort;
 
 /// The bytes before the place are alike, the one there is not, and what stands behind does not count.
-fn finds(rt: &impl Abort, length: usize, place: usize) {
+fn finds(rt: &impl Abort, length: usize, place: usize)
+    requires { length ≤ 130 }
+{
     let mut bytes = [0x5A; 130];
     let alike = [0x5A; 130];
     if place < length {
