@@ -1,15 +1,15 @@
 -- A boot that nothing stops comes to the same as its work done piece by piece.
 use Rattle.std.proofs.Common.{◌≡◌, ℕ, zero, suc, ◌+◌, ◌*◌, ◌≤◌, List, [], ◌∷◌, ◌++◌, length, refl, arith, ap, ◌∙◌}
-use Rattle.reset_play.specs.declared.unit.End.{End}
-use Rattle.reset_play.specs.Boots.{Work, Progress, Course, after_unit, next, after_steps, boot_start, boot_of, boot_work, course_of}
-use Rattle.reset_play.specs.Boots.Work.{Settles, Unstages, Does, Prunes, Removes, Clears}
-use Rattle.reset_play.specs.Boots.Course.{Claim, Close}
-use Rattle.reset_play.specs.Deliveries.{BootUnit}
-use Rattle.reset_play.specs.Formats.{Formats}
-use Rattle.reset_play.specs.Machine.{Machine}
-use Rattle.reset_play.specs.Report.{Reported}
+use Rattle.reference_machine.specs.declared.unit.End.{End}
+use Rattle.reference_machine.specs.Boots.{Work, Progress, Course, after_unit, next, after_steps, boot_start, boot_of, boot_work, course_of}
+use Rattle.reference_machine.specs.Boots.Work.{Settles, Unstages, Does, Prunes, Removes, Clears}
+use Rattle.reference_machine.specs.Boots.Course.{Claim, Close}
+use Rattle.reference_machine.specs.Deliveries.{BootUnit}
+use Rattle.reference_machine.specs.Formats.{Formats}
+use Rattle.reference_machine.specs.Machine.{Machine}
+use Rattle.reference_machine.specs.Report.{Reported}
 use Rattle.reset_play.specs.Whole.{whole, finish}
-use Rattle.reset_play.proofs.Ending.{weight, weight_most}
+use Rattle.reference_machine.proofs.Ending.{weight, weight_most}
 
 -- the first step, and then the others
 steps_first : (f : Formats) (n : ℕ) (b : Progress) → after_steps f (suc n) b ≡ after_steps f n (next f b)

@@ -3,14 +3,14 @@ use Rattle.std.proofs.Common.{◌≡◌, ℕ, suc, ◌+◌, ◌≤◌, ◌<◌, 
 use Rattle.std.proofs.lemmas.Bool.Decides.{nat_tests}
 use Rattle.std.specs.List.{list_any, list_all}
 use Rattle.bench_model.specs.Boards.{BoardValue}
-use Rattle.reset_play.specs.declared.limits.TheConstants.{MAX_FILES}
-use Rattle.reset_play.specs.Events.{Outcome}
-use Rattle.reset_play.specs.Machine.{File, first_moment}
+use Rattle.reference_machine.specs.declared.limits.TheConstants.{MAX_FILES}
+use Rattle.reference_machine.specs.Events.{Outcome}
+use Rattle.reference_machine.specs.Machine.{File, first_moment}
 use Rattle.reset_play.specs.Plays.{is_thin_on}
-use Rattle.reset_play.specs.Spent.{Element}
-use Rattle.reset_play.specs.Told.{Said}
+use Rattle.reference_machine.specs.Spent.{Element}
+use Rattle.reference_machine.specs.Told.{Said}
 use Rattle.reset_play.specs.Whole.{IsPlatform}
-use Rattle.reset_play.proofs.OneUnit.{both_left, both_right}
+use Rattle.reference_machine.proofs.Tests.{both_left, both_right}
 
 filter_short : {X : Type 0} (keep : X → Bool) (xs : List X) → length (filter keep xs) ≤ length xs
 filter_short keep [] = omega arith

@@ -3,7 +3,7 @@ use Rattle.std.proofs.Common.{◌≡◌, ◌∙◌, sym, ℕ, suc, ◌+◌, ◌�
 use native.Mathlib.Numerals.{unary_clauses}
 use Rattle.std.proofs.lemmas.List.Sums.{prefix_len-le-length}
 use Rattle.std.specs.List.{position_or_len, position}
-use Rattle.reset_play.specs.Order.{inserted, in_order}
+use Rattle.reference_machine.specs.Order.{inserted, in_order}
 
 pub place_at_most : {X : Type 0} (p : X → Bool) (xs : List X) → position_or_len p xs ≤ length xs
 place_at_most p xs = prefix_len-le-length (λ x. not (p x)) xs

@@ -3,21 +3,21 @@ use Rattle.std.proofs.Common.{◌≡◌, ℕ, ◌+◌, ◌&&◌, Bool, true, fal
 use Rattle.std.proofs.lemmas.List.Sums.{length-filter}
 use Rattle.std.specs.List.{list_all}
 use Rattle.bench_model.specs.Boards.{BoardValue}
-use Rattle.reset_play.specs.declared.unit.UnitLine.{UnitLine}
-use Rattle.reset_play.specs.Machine.{File, Machine, first_moment}
+use Rattle.reference_machine.specs.declared.unit.UnitLine.{UnitLine}
+use Rattle.reference_machine.specs.Machine.{File, Machine, first_moment}
 use Rattle.cu_base.specs.declared.time.EfiTime.{EfiTime}
-use Rattle.reset_play.specs.declared.unit.End.{End}
-use Rattle.reset_play.specs.declared.unit.End.TheVariants.{Sealed}
-use Rattle.reset_play.specs.declared.unit.Kind.{Kind}
-use Rattle.reset_play.specs.Boots.{Progress, closed_with, kept_with, next_line, settled_with, with_lines}
-use Rattle.reset_play.specs.Boots.Work.{Settles}
-use Rattle.reset_play.specs.Report.{Reported}
-use Rattle.reset_play.specs.Results.{line_of}
+use Rattle.reference_machine.specs.declared.unit.End.{End}
+use Rattle.reference_machine.specs.declared.unit.End.TheVariants.{Sealed}
+use Rattle.reference_machine.specs.declared.unit.Kind.{Kind}
+use Rattle.reference_machine.specs.Boots.{Progress, closed_with, kept_with, next_line, settled_with, with_lines}
+use Rattle.reference_machine.specs.Boots.Work.{Settles}
+use Rattle.reference_machine.specs.Report.{Reported}
+use Rattle.reference_machine.specs.Results.{line_of}
 use Rattle.reset_play.specs.Thin.{thin}
-use Rattle.reset_play.specs.Spent.{Element, is_open, is_closed}
+use Rattle.reference_machine.specs.Spent.{Element, is_open, is_closed}
 use Rattle.reset_play.specs.Whole.{held, is_held_open, whole}
-use Rattle.reset_play.proofs.Lists.{NoneOpen, find_none, find_last, closed_more, closed}
-use Rattle.reset_play.proofs.OneUnit.{both_left, both_right}
+use Rattle.reference_machine.proofs.Lists.{NoneOpen, find_none, find_last, closed_more, closed}
+use Rattle.reference_machine.proofs.Tests.{both_left, both_right}
 
 not_open : (b : Bool) → not b ≡ true → b ≡ false
 not_open true h = cc

@@ -1,12 +1,12 @@
 -- A play goes on by one event.
 use Rattle.std.proofs.Common.{◌≡◌, ℕ, zero, suc, ◌+◌, ◌<◌, ◌≤◌, List, [], ◌∷◌, ◌++◌, take, drop, get_or, length, refl, sym, ap, arith, ◌∙◌, drop-cons, add-one}
-use Rattle.reset_play.specs.declared.event.Event.{Event}
+use Rattle.reference_machine.specs.declared.event.Event.{Event}
 use Rattle.cu_io.specs.Named.{Named}
-use Rattle.reset_play.specs.Events.{act_of, outcome, trace_of, machine_after}
-use Rattle.reset_play.specs.Machine.{Machine}
+use Rattle.reference_machine.specs.Events.{act_of, outcome, trace_of, machine_after}
+use Rattle.reference_machine.specs.Machine.{Machine}
 use Rattle.reset_play.specs.Plays.{loaded_bytes, acts_of}
 use Rattle.reset_play.specs.Thin.{thin}
-use Rattle.reset_play.specs.Told.{Said}
+use Rattle.reference_machine.specs.Told.{Said}
 
 taken_suc : {X : Type 0} (all : List X) (k : ℕ) (x : X) (rest : List X) → x ∷ rest ≡ drop k all → take (suc k) all ≡ take k all ++ x ∷ []
 taken_suc [] zero x rest h = cc

@@ -1,24 +1,24 @@
 -- The parts of a boot on lists.
 use Rattle.std.proofs.Common.{◌≡◌, ℕ, ◌+◌, ◌<◌, List, [], ◌∷◌, ◌++◌, find, drop, get_or, length, refl, sym, ap, arith, nat_lt, flat_map, ◌∙◌, Option, Some, None, Bool, drop-cons, add-one, option_map, unwrap_or, IsTrue, true, cond}
 use Rattle.std.specs.List.{list_all}
-use Rattle.reset_play.specs.declared.snapshot.StagedPair.{StagedPair}
-use Rattle.reset_play.specs.declared.unit.End.{End}
-use Rattle.reset_play.specs.declared.unit.End.TheVariants.{Refused, Sealed}
-use Rattle.reset_play.specs.declared.unit.Kind.TheVariants.{Try, Heal}
-use Rattle.reset_play.specs.declared.unit.UnitKey.{UnitKey}
-use Rattle.reset_play.specs.Boots.{Work, Progress, after_unit, next, boot_of, boot_start, work_with, staged_work, pair_work, folder_work, file_work, files_in_order, prune_work, settled, settled_with, element_of, course_of_try, with_claim, with_element, with_lines, one_step, next_line}
-use Rattle.reset_play.specs.Boots.Work.{Settles, Does, Clears}
-use Rattle.reset_play.specs.Deliveries.{fmp_guid}
-use Rattle.reset_play.specs.Formats.{Item}
-use Rattle.reset_play.specs.Machine.{File, Machine}
-use Rattle.reset_play.specs.Names.{is_taken_before}
-use Rattle.reset_play.specs.Order.{in_order}
+use Rattle.reference_machine.specs.declared.snapshot.StagedPair.{StagedPair}
+use Rattle.reference_machine.specs.declared.unit.End.{End}
+use Rattle.reference_machine.specs.declared.unit.End.TheVariants.{Refused, Sealed}
+use Rattle.reference_machine.specs.declared.unit.Kind.TheVariants.{Try, Heal}
+use Rattle.reference_machine.specs.declared.unit.UnitKey.{UnitKey}
+use Rattle.reference_machine.specs.Boots.{Work, Progress, after_unit, next, boot_of, boot_start, work_with, staged_work, pair_work, folder_work, file_work, files_in_order, prune_work, settled, settled_with, element_of, course_of_try, with_claim, with_element, with_lines, one_step, next_line}
+use Rattle.reference_machine.specs.Boots.Work.{Settles, Does, Clears}
+use Rattle.reference_machine.specs.Deliveries.{fmp_guid}
+use Rattle.reference_machine.specs.Formats.{Item}
+use Rattle.reference_machine.specs.Machine.{File, Machine}
+use Rattle.reference_machine.specs.Names.{is_taken_before}
+use Rattle.reference_machine.specs.Order.{in_order}
 use Rattle.reset_play.specs.Plays.{has_one_device, is_thin_on}
-use Rattle.reset_play.specs.Report.{Reported}
-use Rattle.reset_play.specs.Spent.{Element, is_open}
-use Rattle.reset_play.specs.Spent.Standing.{Open, Closed}
+use Rattle.reference_machine.specs.Report.{Reported}
+use Rattle.reference_machine.specs.Spent.{Element, is_open}
+use Rattle.reference_machine.specs.Spent.Standing.{Open, Closed}
 use Rattle.reset_play.specs.Thin.{thin, thin_item, plain_parts}
-use Rattle.reset_play.specs.Verdicts.{refusal}
+use Rattle.reference_machine.specs.Verdicts.{refusal}
 use Rattle.reset_play.specs.Whole.{whole, finish, file_key, file_unit, heal_work, marked_work, marked_works, marks_of}
 use Rattle.reset_play.proofs.OneUnit.{ordered_all, works_marked}
 use Rattle.reset_play.proofs.Finishing.{progress, boot_finish, finish_append}

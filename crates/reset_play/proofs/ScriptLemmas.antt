@@ -7,7 +7,7 @@ use Rattle.std.proofs.lemmas.List.{take_all, length_push}
 use Rattle.std.proofs.lemmas.List.Splits.{slice_split_first, slice_split_none}
 use Rattle.std.proofs.lemmas.List.Sums.{prefix_len_passes}
 use Rattle.std.specs.List.{prefix_len}
-use Rattle.reset_play.specs.declared.event.Event.{Event}
+use Rattle.reference_machine.specs.declared.event.Event.{Event}
 use Rattle.reset_play.specs.declared.script.limits.TheConstants.{MAX_EVENTS}
 use Rattle.reset_play.specs.ScriptText.{Said, behind, line_said, lines_said}
 use Rattle.reset_play.specs.ScriptWords.{parts, parts_behind, decimal_behind, hex_behind, hex_value, hex_pairs}

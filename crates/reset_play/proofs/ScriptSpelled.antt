@@ -17,8 +17,8 @@ use Rattle.cu_base.proofs.TimeLemmas.{shows_back}
 use Rattle.cu_base.specs.Times.{days_in, is_in_calendar, moment, time_text}
 use Rattle.cu_base.specs.declared.faults.BaseFault.{BaseFault}
 use Rattle.cu_base.specs.declared.time.EfiTime.{EfiTime}
-use Rattle.reset_play.specs.declared.event.Event.{Event}
-use Rattle.reset_play.specs.declared.event.Event.TheVariants.{Time, Drop, Signal, Lay, Poke, Stage, Boot, Arm, Fail, Reset, Show}
+use Rattle.reference_machine.specs.declared.event.Event.{Event}
+use Rattle.reference_machine.specs.declared.event.Event.TheVariants.{Time, Drop, Signal, Lay, Poke, Stage, Boot, Arm, Fail, Reset, Show}
 use Rattle.reset_play.specs.declared.script.faults.ScriptKind.{ScriptKind}
 use Rattle.reset_play.specs.declared.script.faults.ScriptKind.TheVariants.{BadOperand, BadText}
 use Rattle.reset_play.specs.declared.script.limits.TheConstants.{MAX_COUNT, MAX_EVENTS, MAX_POKE_BYTES}

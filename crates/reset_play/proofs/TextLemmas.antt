@@ -1,10 +1,10 @@
 -- Texts that grow piece by piece.
 use Rattle.std.proofs.Common.{◌≡◌, ℕ, suc, ◌+◌, ◌<◌, ◌≤◌, min, ◌⊎◌, inl, inr, List, [], ◌∷◌, ◌++◌, length, get_or, map, flat_map, drop, refl, arith, sym, ap, ◌∙◌, append_assoc, append-nil, drop-cons, add-one, length-drop}
 use Rattle.bench_model.specs.Boards.{BoardValue}
-use Rattle.reset_play.specs.declared.event.Event.{Event}
-use Rattle.reset_play.specs.declared.trace.Entry.{Entry}
+use Rattle.reference_machine.specs.declared.event.Event.{Event}
+use Rattle.reference_machine.specs.declared.trace.Entry.{Entry}
 use Rattle.reset_play.specs.Texts.{entries_text}
-use Rattle.reset_play.specs.Told.{told_of}
+use Rattle.reference_machine.specs.Told.{told_of}
 
 -- three pieces in turn
 pub three : (o a b d x y z : List ℕ) → x ≡ o ++ a → y ≡ x ++ b → z ≡ y ++ d → z ≡ o ++ (a ++ (b ++ d))

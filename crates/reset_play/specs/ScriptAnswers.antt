@@ -1,7 +1,7 @@
 -- What a reader of scripts answers: what the definition says, unless memory ran out.
 use Rattle.std.specs.Prelude.{◌≡◌, Result, Ok, Err}
 use Rattle.cu_base.specs.Kept.{Kept}
-use Rattle.reset_play.specs.declared.event.Event.{Event}
+use Rattle.reference_machine.specs.declared.event.Event.{Event}
 use Rattle.reset_play.specs.declared.script.faults.LineFault.{LineFault}
 use Rattle.reset_play.specs.declared.script.faults.LineFault.TheVariants as line
 use Rattle.reset_play.specs.declared.script.faults.ScriptFault.{ScriptFault}

@@ -1,7 +1,7 @@
 -- The text of a script: lines with a line feed between any two, each of them skipped, an event or refused.
 use Rattle.std.specs.Prelude.{ℕ, ◌+◌, Bool, ◌||◌, not, ◌==◌, nat_lt, if◌then◌else◌, List, [], ◌∷◌, ◌++◌, length, slice_index, Option, Some, None, Result, Ok, Err}
 use Rattle.std.specs.List.{list_all}
-use Rattle.reset_play.specs.declared.event.Event.{Event}
+use Rattle.reference_machine.specs.declared.event.Event.{Event}
 use Rattle.reset_play.specs.declared.script.limits.TheConstants.{MAX_EVENTS}
 use Rattle.reset_play.specs.declared.script.faults.ScriptKind.{ScriptKind}
 use Rattle.reset_play.specs.declared.script.faults.ScriptKind.TheVariants.{BadText, BadEvent, TooMany}

@@ -5,21 +5,21 @@ use Rattle.std.specs.Fmt.{digit_glyph, radix_digits}
 use Rattle.cu_base.specs.declared.status.EfiStatus.{EfiStatus}
 use Rattle.cu_base.specs.declared.ticket.Ticket.{Ticket}
 use Rattle.cu_base.specs.Guids.{guid_text}
-use Rattle.reset_play.specs.declared.event.Event.{Event}
-use Rattle.reset_play.specs.declared.event.Event.TheVariants as events
-use Rattle.reset_play.specs.declared.snapshot.CapsuleResult.{CapsuleResult}
-use Rattle.reset_play.specs.declared.snapshot.EsrtEntry.{EsrtEntry}
-use Rattle.reset_play.specs.declared.snapshot.FmpResult.{FmpResult}
-use Rattle.reset_play.specs.declared.snapshot.FolderFile.{FolderFile}
-use Rattle.reset_play.specs.declared.snapshot.StagedPair.{StagedPair}
-use Rattle.reset_play.specs.declared.trace.BootEnd.{BootEnd}
-use Rattle.reset_play.specs.declared.trace.BootEnd.TheVariants as ends
-use Rattle.reset_play.specs.declared.unit.Kind.{Kind}
-use Rattle.reset_play.specs.declared.unit.Kind.TheVariants.{Try, Heal, Skip, NoTarget, Bad}
-use Rattle.reset_play.specs.declared.unit.UnitLine.{UnitLine}
+use Rattle.reference_machine.specs.declared.event.Event.{Event}
+use Rattle.reference_machine.specs.declared.event.Event.TheVariants as events
+use Rattle.reference_machine.specs.declared.snapshot.CapsuleResult.{CapsuleResult}
+use Rattle.reference_machine.specs.declared.snapshot.EsrtEntry.{EsrtEntry}
+use Rattle.reference_machine.specs.declared.snapshot.FmpResult.{FmpResult}
+use Rattle.reference_machine.specs.declared.snapshot.FolderFile.{FolderFile}
+use Rattle.reference_machine.specs.declared.snapshot.StagedPair.{StagedPair}
+use Rattle.reference_machine.specs.declared.trace.BootEnd.{BootEnd}
+use Rattle.reference_machine.specs.declared.trace.BootEnd.TheVariants as ends
+use Rattle.reference_machine.specs.declared.unit.Kind.{Kind}
+use Rattle.reference_machine.specs.declared.unit.Kind.TheVariants.{Try, Heal, Skip, NoTarget, Bad}
+use Rattle.reference_machine.specs.declared.unit.UnitLine.{UnitLine}
 use Rattle.bench_model.specs.Boards.{BoardValue}
-use Rattle.reset_play.specs.Told.{Told, Picture}
-use Rattle.reset_play.specs.Told.Told.{Done, Serial, FlashFault, VolumeFault, NoBank, Full, Wraps, Invalid, Unsupported, Resources, Booted, Shown}
+use Rattle.reference_machine.specs.Told.{Told, Picture}
+use Rattle.reference_machine.specs.Told.Told.{Done, Serial, FlashFault, VolumeFault, NoBank, Full, Wraps, Invalid, Unsupported, Resources, Booted, Shown}
 
 -- words, each with a space before it
 abbrev pub parts : List (List ℕ) → List ℕ

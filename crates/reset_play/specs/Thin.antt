@@ -3,8 +3,8 @@
 -- header is EDK II's FmpPayloadHeader).
 use Rattle.std.specs.Prelude.{ℕ, Bool, true, ◌+◌, ◌==◌, ◌&&◌, ◌||◌, not, nat_lt, nat_le, List, [], ◌∷◌, length, drop, bytes_eq, Option, None, Some, if◌then◌else◌}
 use Rattle.cu_base.specs.Fields.{field, number_at}
-use Rattle.reset_play.specs.Deliveries.{fmp_guid}
-use Rattle.reset_play.specs.Formats.{Item, Capsule, Parts, Formats}
+use Rattle.reference_machine.specs.Deliveries.{fmp_guid}
+use Rattle.reference_machine.specs.Formats.{Item, Capsule, Parts, Formats}
 
 -- the capsule header: the GUID at 0, HeaderSize at 16, CapsuleImageSize at 24
 abbrev pub has_thin_header : List ℕ → Bool

@@ -5,13 +5,13 @@ use Rattle.reset_play.specs.declared.thin_play.delivery.ThinItem.{ThinItem}
 use Rattle.reset_play.specs.declared.thin_play.delivery.PlainParts.{PlainParts}
 use Rattle.reset_play.specs.declared.thin_play.spent.Standing.{Standing}
 use Rattle.reset_play.specs.declared.thin_play.spent.Standing.TheVariants as standing
-use Rattle.reset_play.specs.declared.unit.Kind.TheVariants.{Try}
-use Rattle.reset_play.specs.declared.unit.UnitKey.{UnitKey}
-use Rattle.reset_play.specs.Deliveries.{fmp_guid}
-use Rattle.reset_play.specs.Formats.{ItemHead, Item, Parts}
-use Rattle.reset_play.specs.Machine.{first_moment}
-use Rattle.reset_play.specs.Spent as spent
-use Rattle.reset_play.specs.Spent.{Element}
+use Rattle.reference_machine.specs.declared.unit.Kind.TheVariants.{Try}
+use Rattle.reference_machine.specs.declared.unit.UnitKey.{UnitKey}
+use Rattle.reference_machine.specs.Deliveries.{fmp_guid}
+use Rattle.reference_machine.specs.Formats.{ItemHead, Item, Parts}
+use Rattle.reference_machine.specs.Machine.{first_moment}
+use Rattle.reference_machine.specs.Spent as spent
+use Rattle.reference_machine.specs.Spent.{Element}
 use Rattle.reset_play.specs.Thin.{is_thin, thin_item}
 
 -- the header of a thin item: of version 3, for images of support 0

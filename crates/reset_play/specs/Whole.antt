@@ -2,19 +2,19 @@
 use Rattle.std.specs.Prelude.{◌≤◌, IsTrue, true, length, List, [], ◌∷◌, ◌++◌, Bool, Option, None, Some, ◌==◌, map, not, if◌then◌else◌}
 use Rattle.std.specs.List.{list_all}
 use Rattle.bench_model.specs.Boards.{BoardValue}
-use Rattle.reset_play.specs.declared.limits.TheConstants.{MAX_FILES}
-use Rattle.reset_play.specs.declared.report.Report.{Report}
-use Rattle.reset_play.specs.declared.unit.End.TheVariants.{Sealed}
-use Rattle.reset_play.specs.declared.unit.Kind.TheVariants.{Try, Heal}
-use Rattle.reset_play.specs.declared.unit.UnitKey.{UnitKey}
-use Rattle.reset_play.specs.Boots.{Work, Progress, after, next}
-use Rattle.reset_play.specs.Boots.Work.{Settles, Does, Removes}
-use Rattle.reset_play.specs.Deliveries.{BootUnit, fmp_guid}
-use Rattle.reset_play.specs.Formats.{Formats, Item}
-use Rattle.reset_play.specs.Machine.{File, Machine}
+use Rattle.reference_machine.specs.declared.limits.TheConstants.{MAX_FILES}
+use Rattle.reference_machine.specs.declared.report.Report.{Report}
+use Rattle.reference_machine.specs.declared.unit.End.TheVariants.{Sealed}
+use Rattle.reference_machine.specs.declared.unit.Kind.TheVariants.{Try, Heal}
+use Rattle.reference_machine.specs.declared.unit.UnitKey.{UnitKey}
+use Rattle.reference_machine.specs.Boots.{Work, Progress, after, next}
+use Rattle.reference_machine.specs.Boots.Work.{Settles, Does, Removes}
+use Rattle.reference_machine.specs.Deliveries.{BootUnit, fmp_guid}
+use Rattle.reference_machine.specs.Formats.{Formats, Item}
+use Rattle.reference_machine.specs.Machine.{File, Machine}
 use Rattle.reset_play.specs.Plays.{has_one_device, is_thin_on}
-use Rattle.reset_play.specs.Report.{report_of}
-use Rattle.reset_play.specs.Spent.{Element, is_open, is_closed, spent}
+use Rattle.reference_machine.specs.Report.{report_of}
+use Rattle.reference_machine.specs.Spent.{Element, is_open, is_closed, spent}
 use Rattle.reset_play.specs.Thin.{thin_item}
 
 -- a boot of which nothing is left

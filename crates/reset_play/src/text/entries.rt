@@ -2,7 +2,7 @@
 
 ghost use Rattle.std.specs.Prelude.{◌≡◌, ◌++◌, map, IfOk, OnOk};
 ghost use Rattle.reset_play.specs.Texts.{answer_words, end_word, entries_text, event_line, event_word, lines_before, parts, trace_text};
-ghost use Rattle.reset_play.specs.Told.{told_of};
+ghost use Rattle.reference_machine.specs.Told.{told_of};
 
 use super::parts::{push_number, push_number_part, push_word_part};
 use super::picture::push_picture;

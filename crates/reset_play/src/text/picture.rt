@@ -2,7 +2,7 @@
 
 ghost use Rattle.std.specs.Prelude.{◌≡◌, ◌++◌, flat_map, OnOk};
 ghost use Rattle.reset_play.specs.Texts.{esrt_text, result_text, fmp_words, last_text, file_text, parts, staged_text, picture_text};
-ghost use Rattle.reset_play.specs.Told.{picture_of};
+ghost use Rattle.reference_machine.specs.Told.{picture_of};
 
 use super::parts::{
     push_guid_part, push_hex_part, push_number_part, push_number_parts, push_part_or_dash,

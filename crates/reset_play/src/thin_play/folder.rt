@@ -2,9 +2,9 @@
 
 ghost use Rattle.std.specs.Prelude.{◌≡◌, ◌≤◌, length, IfOk, OnOk, OnErr, position};
 ghost use Rattle.std.specs.List.{list_any, position_or_len};
-ghost use Rattle.reset_play.specs.Boots.{is_file};
-ghost use Rattle.reset_play.specs.Names.{is_same_name, is_taken_before};
-ghost use Rattle.reset_play.specs.Order.{in_order, inserted};
+ghost use Rattle.reference_machine.specs.Boots.{is_file};
+ghost use Rattle.reference_machine.specs.Names.{is_same_name, is_taken_before};
+ghost use Rattle.reference_machine.specs.Order.{in_order, inserted};
 
 use cu_base::{NoMemory, Text};
 use std::alloc::Global;
@@ -19,7 +19,7 @@ pub struct StoredFile<'a> {
 }
 
 impl<'a> Model for StoredFile<'a> {
-    ghost use Rattle.reset_play.specs.Machine.{File};
+    ghost use Rattle.reference_machine.specs.Machine.{File};
 
     ghost Value = { File };
 

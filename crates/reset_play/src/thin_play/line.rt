@@ -1,8 +1,8 @@
 //! The lines of a boot.
 
 ghost use Rattle.std.specs.Prelude.{◌≡◌, IfOk, Some};
-ghost use Rattle.reset_play.specs.Results.{status_with, efi_status, efi_number_of, line_of, result_number};
-ghost use Rattle.reset_play.specs.declared.unit.Kind.TheVariants.{Try};
+ghost use Rattle.reference_machine.specs.Results.{status_with, efi_status, efi_number_of, line_of, result_number};
+ghost use Rattle.reference_machine.specs.declared.unit.Kind.TheVariants.{Try};
 
 use super::spent::{SpentTry, Standing};
 use crate::{End, Kind, UnitKey, UnitLine};

@@ -5,13 +5,13 @@ mod folder_work;
 mod steps;
 
 ghost use Rattle.std.specs.Prelude.{◌≡◌, ◌≤◌, ◌+◌, ◌++◌, ◌∷◌, [], ◌^◌, ◌<◌, ◌-◌, false, IsTrue, not, filter, IfOk, OnOk, OnErr};
-ghost use Rattle.reset_play.specs.Events.Act.{Drop, Signal};
-ghost use Rattle.reset_play.specs.Events.{outcome, plain, is_folder_full};
-ghost use Rattle.reset_play.specs.Machine.{fresh};
-ghost use Rattle.reset_play.specs.Names.{is_same_name};
+ghost use Rattle.reference_machine.specs.Events.Act.{Drop, Signal};
+ghost use Rattle.reference_machine.specs.Events.{outcome, plain, is_folder_full};
+ghost use Rattle.reference_machine.specs.Machine.{fresh};
+ghost use Rattle.reference_machine.specs.Names.{is_same_name};
 ghost use Rattle.reset_play.specs.Plays.{has_one_device, is_thin_on};
 ghost use Rattle.reset_play.specs.Thin.{thin};
-ghost use Rattle.reset_play.specs.Told.{told_of, said_of};
+ghost use Rattle.reference_machine.specs.Told.{told_of, said_of};
 
 use super::folder::{StoredFile, has_file, is_same_name};
 use super::spent::{SpentTries, SpentTry};
@@ -38,7 +38,7 @@ pub struct Platform<'a> {
 
 impl<'a> Model for Platform<'a> {
     ghost use Rattle.std.specs.Prelude.{◌++◌, [], false};
-    ghost use Rattle.reset_play.specs.Machine.{Machine, first_moment};
+    ghost use Rattle.reference_machine.specs.Machine.{Machine, first_moment};
     ghost use Rattle.reset_play.specs.Whole.{held, IsPlatform};
 
     ghost Value = { Machine };

@@ -2,11 +2,11 @@
 
 ghost use Rattle.std.specs.Prelude.{◌≡◌, ◌≤◌, ◌+◌, ◌^◌, ℕ, ◌++◌, IsTrue, length, take, map, OnOk, OnErr, IfOk};
 ghost use Rattle.std.specs.List.{list_all};
-ghost use Rattle.reset_play.specs.Events.{outcome, act_of, trace_of, machine_after};
-ghost use Rattle.reset_play.specs.Events.Act.{Drop, Boot};
+ghost use Rattle.reference_machine.specs.Events.{outcome, act_of, trace_of, machine_after};
+ghost use Rattle.reference_machine.specs.Events.Act.{Drop, Boot};
 ghost use Rattle.reset_play.specs.Plays.{has_one_device, can_play, is_thin_on, thin_trace, loaded_bytes, acts_of};
 ghost use Rattle.reset_play.specs.Thin.{thin};
-ghost use Rattle.reset_play.specs.Told.{said_of};
+ghost use Rattle.reference_machine.specs.Told.{said_of};
 
 use super::platform::Platform;
 use crate::{Answer, BootEnd, Entry, Event, MAX_EVENTS, Script, Trace};

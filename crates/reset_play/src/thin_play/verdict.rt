@@ -1,11 +1,11 @@
 //! Whether an image may be tried on the first device of a board.
 
 ghost use Rattle.std.specs.Prelude.{◌≡◌, nat_le, Some};
-ghost use Rattle.reset_play.specs.Deliveries.{BootUnit};
-ghost use Rattle.reset_play.specs.Machine.{Machine};
+ghost use Rattle.reference_machine.specs.Deliveries.{BootUnit};
+ghost use Rattle.reference_machine.specs.Machine.{Machine};
 ghost use Rattle.reset_play.specs.Thin.{thin};
 ghost use Rattle.reset_play.specs.ThinValues.{parts_of};
-ghost use Rattle.reset_play.specs.Verdicts.{is_admitted, capacity_of, refusal, refusal_with};
+ghost use Rattle.reference_machine.specs.Verdicts.{is_admitted, capacity_of, refusal, refusal_with};
 
 use super::delivery::{PlainParts, read_parts};
 use super::spent::{SpentTry, first_device, floor_in_force};

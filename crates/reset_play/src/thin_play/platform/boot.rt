@@ -1,11 +1,11 @@
 //! A whole boot.
 
 ghost use Rattle.std.specs.Prelude.{◌≡◌, ◌≤◌, ◌+◌, ◌^◌, find, None, IfOk, OnOk};
-ghost use Rattle.reset_play.specs.Boots.{boot_of};
-ghost use Rattle.reset_play.specs.Spent.{is_open};
+ghost use Rattle.reference_machine.specs.Boots.{boot_of};
+ghost use Rattle.reference_machine.specs.Spent.{is_open};
 ghost use Rattle.reset_play.specs.Thin.{thin};
 ghost use Rattle.reset_play.specs.Whole.{at, finish, heal_work};
-ghost use Rattle.reset_play.specs.declared.unit.End.TheVariants.{Sealed};
+ghost use Rattle.reference_machine.specs.declared.unit.End.TheVariants.{Sealed};
 
 use super::Platform;
 use crate::{Kind, Report};

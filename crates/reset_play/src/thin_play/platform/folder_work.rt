@@ -2,10 +2,10 @@
 
 ghost use Rattle.std.specs.Prelude.{◌≡◌, ◌≤◌, ◌+◌, ◌*◌, ◌^◌, [], ◌∷◌, IsTrue, not, filter, find, None, IfOk, OnOk, length, if◌then◌else◌};
 ghost use Rattle.std.specs.List.{list_any, list_all};
-ghost use Rattle.reset_play.specs.Boots.{is_file, prune_work, folder_work};
-ghost use Rattle.reset_play.specs.Boots.Work.{Does};
+ghost use Rattle.reference_machine.specs.Boots.{is_file, prune_work, folder_work};
+ghost use Rattle.reference_machine.specs.Boots.Work.{Does};
 ghost use Rattle.reset_play.specs.Plays.{is_thin_on};
-ghost use Rattle.reset_play.specs.Spent.{is_open};
+ghost use Rattle.reference_machine.specs.Spent.{is_open};
 ghost use Rattle.reset_play.specs.Thin.{thin};
 ghost use Rattle.reset_play.specs.Whole.{at, whole, finish, file_unit, marked_work, marked_works, marks_of};
 

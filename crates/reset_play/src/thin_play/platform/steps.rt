@@ -2,14 +2,14 @@
 
 ghost use Rattle.std.specs.Prelude.{◌≡◌, ◌≤◌, ◌+◌, ◌∷◌, [], ◌^◌, IsTrue, not, ◌==◌, filter, find, None, OnOk, IsSome};
 ghost use Rattle.std.specs.List.{list_any};
-ghost use Rattle.reset_play.specs.Boots.{kept_with, with_element, with_claim, with_lines, one_step, next_line};
-ghost use Rattle.reset_play.specs.Boots.Work.{Settles, Removes, Clears};
-ghost use Rattle.reset_play.specs.Report.{report_of};
-ghost use Rattle.reset_play.specs.Spent.{is_open, is_closed};
+ghost use Rattle.reference_machine.specs.Boots.{kept_with, with_element, with_claim, with_lines, one_step, next_line};
+ghost use Rattle.reference_machine.specs.Boots.Work.{Settles, Removes, Clears};
+ghost use Rattle.reference_machine.specs.Report.{report_of};
+ghost use Rattle.reference_machine.specs.Spent.{is_open, is_closed};
 ghost use Rattle.reset_play.specs.Thin.{thin};
 ghost use Rattle.reset_play.specs.Whole.{at, whole};
-ghost use Rattle.reset_play.specs.declared.unit.End.TheVariants.{Sealed};
-ghost use Rattle.reset_play.specs.declared.unit.Kind.TheVariants.{Try};
+ghost use Rattle.reference_machine.specs.declared.unit.End.TheVariants.{Sealed};
+ghost use Rattle.reference_machine.specs.declared.unit.Kind.TheVariants.{Try};
 
 use super::Platform;
 use crate::thin_play::folder::StoredFile;

@@ -1,5 +1,5 @@
 use Rattle.std.proofs.Common.{◌≡◌, ◌+◌, ◌++◌, map, drop}
-use Rattle.reset_play.specs.Told.{told_of}
+use Rattle.reference_machine.specs.Told.{told_of}
 use Rattle.reset_play.specs.Texts.{entries_text}
 use Rattle.reset_play.proofs.text.entries.push_entries.Given as goal
 

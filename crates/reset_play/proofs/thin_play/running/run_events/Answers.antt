@@ -1,10 +1,10 @@
 use Rattle.std.proofs.Common.{arith, ◌≡◌, ◌+◌, ◌∷◌, ◌++◌, List, [], map, take, drop, length, sym, ap, ◌∙◌, append_assoc}
 use Rattle.std.proofs.lemmas.List.{map_push}
-use Rattle.reset_play.specs.declared.event.Event.{Event}
-use Rattle.reset_play.specs.Events.{trace_of}
+use Rattle.reference_machine.specs.declared.event.Event.{Event}
+use Rattle.reference_machine.specs.Events.{trace_of}
 use Rattle.reset_play.specs.Plays.{acts_of}
 use Rattle.reset_play.specs.Thin.{thin}
-use Rattle.reset_play.specs.Told.{Said, said_of}
+use Rattle.reference_machine.specs.Told.{Said, said_of}
 use Rattle.reset_play.proofs.PlayEvents.{taken_more, dropped_more, taken_whole, none_behind, length_more, told_next, machine_next}
 use Rattle.reset_play.proofs.thin_play.running.run_events.Goals as goal
 

@@ -1,8 +1,8 @@
 use Rattle.std.proofs.Common.{◌≡◌, ◌≤◌, ◌+◌, ◌*◌, ◌++◌, take, drop, map, length}
-use Rattle.reset_play.specs.Events.{trace_of, machine_after}
+use Rattle.reference_machine.specs.Events.{trace_of, machine_after}
 use Rattle.reset_play.specs.Plays.{acts_of}
 use Rattle.reset_play.specs.Thin.{thin}
-use Rattle.reset_play.specs.Told.{said_of}
+use Rattle.reference_machine.specs.Told.{said_of}
 use Rattle.reset_play.proofs.thin_play.running.run_events.Given as goal
 
 -- what was told is a front of the whole trace, and the other events tell the rest of it

@@ -1,9 +1,9 @@
 use Rattle.std.proofs.Common.{◌≡◌, [], Some, find, sym, ap, ◌∙◌}
-use Rattle.reset_play.specs.declared.unit.End.TheVariants.{Sealed}
-use Rattle.reset_play.specs.Boots.{boot_start}
-use Rattle.reset_play.specs.Machine.{Machine}
-use Rattle.reset_play.specs.Report.{Reported, nothing_done}
-use Rattle.reset_play.specs.Spent.{is_open}
+use Rattle.reference_machine.specs.declared.unit.End.TheVariants.{Sealed}
+use Rattle.reference_machine.specs.Boots.{boot_start}
+use Rattle.reference_machine.specs.Machine.{Machine}
+use Rattle.reference_machine.specs.Report.{Reported, nothing_done}
+use Rattle.reference_machine.specs.Spent.{is_open}
 use Rattle.reset_play.specs.Thin.{thin}
 use Rattle.reset_play.specs.Whole.{at, finish, heal_work}
 use Rattle.reset_play.proofs.Finishing.{progress}

@@ -1,5 +1,5 @@
 use Rattle.std.proofs.Common.{◌≡◌, ◌+◌, ◌∷◌, ◌++◌, [], None, find, sym, subst, refl}
-use Rattle.reset_play.specs.Spent.{is_open}
+use Rattle.reference_machine.specs.Spent.{is_open}
 use Rattle.reset_play.specs.Whole.{held}
 use Rattle.reset_play.proofs.Held.{none_held, held_more, pends_held, built_same}
 use Rattle.reset_play.proofs.thin_play.platform.Platform.claim.Goals as goal

@@ -1,9 +1,9 @@
 use Rattle.std.proofs.Common.{rules, ◌≡◌, ◌+◌, IsTrue, ◌∷◌, ◌++◌, [], None, find, length, count_by, ◌∙◌, sym, ap, subst}
 use Rattle.std.specs.List.{list_all}
-use Rattle.reset_play.specs.declared.unit.Kind.TheVariants.{Try}
-use Rattle.reset_play.specs.Boots.{kept_with}
-use Rattle.reset_play.specs.Results.{line_of}
-use Rattle.reset_play.specs.Spent.{is_open, is_closed}
+use Rattle.reference_machine.specs.declared.unit.Kind.TheVariants.{Try}
+use Rattle.reference_machine.specs.Boots.{kept_with}
+use Rattle.reference_machine.specs.Results.{line_of}
+use Rattle.reference_machine.specs.Spent.{is_open, is_closed}
 use Rattle.reset_play.specs.Whole.{held}
 use Rattle.reset_play.proofs.Held.{none_held, count_held, held_more, held_none, rests_held, all_closed_more, built_same}
 use Rattle.reset_play.proofs.thin_play.platform.Platform.close.Goals as goal

@@ -1,5 +1,5 @@
 use Rattle.std.proofs.Common.{◌≡◌, ◌≤◌, ◌+◌, ◌*◌, drop, find, None}
-use Rattle.reset_play.specs.Spent.{is_open}
+use Rattle.reference_machine.specs.Spent.{is_open}
 use Rattle.reset_play.specs.Thin.{thin}
 use Rattle.reset_play.specs.Whole.{at, finish, marked_works}
 use Rattle.reset_play.proofs.thin_play.platform.Platform.do_files.Given as goal

@@ -1,12 +1,12 @@
 use Rattle.std.proofs.Common.{◌≡◌, ◌+◌, ◌<◌, ◌∷◌, ◌++◌, [], List, ℕ, IsTrue, not, false, filter, length, sym, ap, subst, ◌∙◌}
 use Rattle.std.specs.List.{list_any}
-use Rattle.reset_play.specs.declared.limits.TheConstants.{MAX_FILES}
-use Rattle.reset_play.specs.Events.{is_folder_full, plain}
-use Rattle.reset_play.specs.Machine.{File, Machine}
-use Rattle.reset_play.specs.Names.{is_same_name}
+use Rattle.reference_machine.specs.declared.limits.TheConstants.{MAX_FILES}
+use Rattle.reference_machine.specs.Events.{is_folder_full, plain}
+use Rattle.reference_machine.specs.Machine.{File, Machine}
+use Rattle.reference_machine.specs.Names.{is_same_name}
 use Rattle.reset_play.specs.Plays.{is_thin_on}
-use Rattle.reset_play.specs.Told.{said_of}
-use Rattle.reset_play.specs.Told.Told.{Serial}
+use Rattle.reference_machine.specs.Told.{said_of}
+use Rattle.reference_machine.specs.Told.Told.{Serial}
 use Rattle.reset_play.specs.Whole.{IsPlatform, held}
 use Rattle.reset_play.proofs.FolderFiles.{fewer_files, one_file_more, room_left, dropped_same}
 use Rattle.reset_play.proofs.thin_play.platform.Platform.drop_file.Goals as goal

@@ -1,5 +1,5 @@
 use Rattle.std.proofs.Common.{rules, ◌≡◌, None, IsSome, find, sym, ap, subst}
-use Rattle.reset_play.specs.Spent.{is_open}
+use Rattle.reference_machine.specs.Spent.{is_open}
 use Rattle.reset_play.specs.Thin.{thin}
 use Rattle.reset_play.specs.Whole.{at, finish, heal_work}
 use Rattle.reset_play.proofs.Held.{rests_held, held_pends}

@@ -1,5 +1,5 @@
 use Rattle.std.proofs.Common.{not, ◌==◌, List, sym, subst}
-use Rattle.reset_play.specs.Machine.{File}
+use Rattle.reference_machine.specs.Machine.{File}
 use Rattle.reset_play.specs.Whole.{IsPlatform}
 use Rattle.reset_play.proofs.FolderFiles.{fewer_files}
 use Rattle.reset_play.proofs.thin_play.platform.Platform.remove.Goals as goal

@@ -1,12 +1,12 @@
 use Rattle.std.proofs.Common.{rules, ◌≡◌, ◌+◌, IsTrue, ◌∷◌, ◌++◌, [], None, Some, IsSome, find, length, ◌∙◌, sym, ap, subst, refl}
 use Rattle.std.specs.List.{list_all}
-use Rattle.reset_play.specs.declared.unit.End.TheVariants.{Sealed}
-use Rattle.reset_play.specs.Boots.{kept_with}
-use Rattle.reset_play.specs.Machine.{first_moment}
-use Rattle.reset_play.specs.Results.{line_of}
-use Rattle.reset_play.specs.Spent.{is_open, is_closed}
+use Rattle.reference_machine.specs.declared.unit.End.TheVariants.{Sealed}
+use Rattle.reference_machine.specs.Boots.{kept_with}
+use Rattle.reference_machine.specs.Machine.{first_moment}
+use Rattle.reference_machine.specs.Results.{line_of}
+use Rattle.reference_machine.specs.Spent.{is_open, is_closed}
 use Rattle.reset_play.specs.Whole.{held, is_held_open}
-use Rattle.reset_play.proofs.Lists.{closed}
+use Rattle.reference_machine.proofs.Lists.{closed}
 use Rattle.reset_play.proofs.Held.{some_held, held_none, rests_held, all_closed_more, built_same, settled_whole}
 use Rattle.reset_play.proofs.thin_play.platform.Platform.settle.Goals as goal
 

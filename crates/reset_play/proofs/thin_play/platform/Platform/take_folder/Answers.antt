@@ -1,15 +1,16 @@
 use Rattle.std.proofs.Common.{rules, arith, ◌≡◌, ◌++◌, IsTrue, List, Bool, true, None, find, length, sym, ap, subst, ◌∙◌}
 use Rattle.std.specs.List.{list_all}
 use Rattle.bench_model.specs.Boards.{BoardValue}
-use Rattle.reset_play.specs.Boots.{files_in_order}
-use Rattle.reset_play.specs.Machine.{File, Machine}
-use Rattle.reset_play.specs.Names.{is_taken_before}
-use Rattle.reset_play.specs.Order.{in_order}
+use Rattle.reference_machine.specs.Boots.{files_in_order}
+use Rattle.reference_machine.specs.Machine.{File, Machine}
+use Rattle.reference_machine.specs.Names.{is_taken_before}
+use Rattle.reference_machine.specs.Order.{in_order}
 use Rattle.reset_play.specs.Plays.{has_one_device, is_thin_on}
-use Rattle.reset_play.specs.Spent.{Element, is_open}
+use Rattle.reference_machine.specs.Spent.{Element, is_open}
 use Rattle.reset_play.specs.Whole.{at, held, marks_of}
 use Rattle.reset_play.proofs.Held.{none_held, held_none}
-use Rattle.reset_play.proofs.OneUnit.{ordered_all, ordered_length}
+use Rattle.reference_machine.proofs.Ordered.{ordered_length}
+use Rattle.reset_play.proofs.OneUnit.{ordered_all}
 use Rattle.reset_play.proofs.PlayParts.{folder_parts}
 use Rattle.reset_play.proofs.thin_play.platform.Platform.take_folder.Goals as goal
 

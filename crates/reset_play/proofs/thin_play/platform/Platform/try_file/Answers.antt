@@ -1,20 +1,20 @@
 use Rattle.std.proofs.Common.{◌≡◌, ◌++◌, None, Some, IsTrue, find, sym, ap, subst, ◌∙◌, refl}
 use Rattle.cu_base.specs.declared.time.EfiTime.{EfiTime}
-use Rattle.reset_play.specs.declared.unit.End.TheVariants.{Refused, Sealed}
-use Rattle.reset_play.specs.declared.unit.Kind.TheVariants.{Try}
-use Rattle.reset_play.specs.Boots.{Progress, element_of}
-use Rattle.reset_play.specs.Boots.Work.{Settles}
-use Rattle.reset_play.specs.Formats.{Item}
-use Rattle.reset_play.specs.Machine.{File, Machine, first_moment}
+use Rattle.reference_machine.specs.declared.unit.End.TheVariants.{Refused, Sealed}
+use Rattle.reference_machine.specs.declared.unit.Kind.TheVariants.{Try}
+use Rattle.reference_machine.specs.Boots.{Progress, element_of}
+use Rattle.reference_machine.specs.Boots.Work.{Settles}
+use Rattle.reference_machine.specs.Formats.{Item}
+use Rattle.reference_machine.specs.Machine.{File, Machine, first_moment}
 use Rattle.reset_play.specs.Plays.{is_thin_on}
-use Rattle.reset_play.specs.Report.{report_of}
-use Rattle.reset_play.specs.Spent.{Element, is_open}
-use Rattle.reset_play.specs.Spent.Standing.{Closed}
+use Rattle.reference_machine.specs.Report.{report_of}
+use Rattle.reference_machine.specs.Spent.{Element, is_open}
+use Rattle.reference_machine.specs.Spent.Standing.{Closed}
 use Rattle.reset_play.specs.Thin.{thin, is_thin, thin_item}
-use Rattle.reset_play.specs.Verdicts.{refusal}
+use Rattle.reference_machine.specs.Verdicts.{refusal}
 use Rattle.reset_play.specs.Whole.{held, whole, file_unit}
 use Rattle.reset_play.proofs.Held.{none_held, held_none}
-use Rattle.reset_play.proofs.OneUnit.{both_left}
+use Rattle.reference_machine.proofs.Tests.{both_left}
 use Rattle.reset_play.proofs.PlayParts.{tried_refused, tried_claimed}
 use Rattle.reset_play.proofs.thin_play.platform.Platform.try_file.Goals as goal
 

@@ -1,0 +1,13 @@
+pub mod Boots
+pub mod Deliveries
+pub mod Events
+pub mod Formats
+pub mod Laws
+pub mod Machine
+pub mod Names
+pub mod Order
+pub mod Report
+pub mod Results
+pub mod Spent
+pub mod Told
+pub mod Verdicts

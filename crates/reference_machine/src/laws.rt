@@ -1,0 +1,67 @@
+//! What holds of the reference machine, whatever is delivered, whatever fails, and whatever the formats say. Each law is the
+//! contract of a function that does nothing.
+
+ghost use Rattle.std.specs.Prelude.{◌≡◌, ◌<◌, ◌≤◌, ◌^◌, ℕ, List, ◌++◌};
+ghost use Rattle.bench_model.specs.Boards.{BoardValue, IsBoard};
+ghost use Rattle.reference_machine.specs.Boots.{boot_at};
+ghost use Rattle.reference_machine.specs.Events.{Act, Run, trace_of, machine_after};
+ghost use Rattle.reference_machine.specs.Formats.{Formats};
+ghost use Rattle.reference_machine.specs.Laws.{IsReached, OpenIsLast, AttemptsReachFloor, AreApart, StandInOrder, HaveDistinctKeys, SpentFilesAreKept, IsWithinLimits, SerialsAreGiven, KeepsLimits, TellNoFault};
+ghost use Rattle.reference_machine.specs.Machine.{Machine, fresh};
+ghost use Rattle.reference_machine.specs.Spent.{Element, floor_of};
+ghost use Rattle.reference_machine.specs.Told.{Said};
+ghost use Rattle.reference_machine.specs.declared.unit.End.{End};
+
+/// The floor in force of a device never falls along the list of spent units.
+#[tactic(auto, using(crate::proofs::Floors::never_falls))]
+pub fn floor_never_falls()
+    ensures { (board : BoardValue) (before rest : List Element) (d : ℕ) → floor_of board before d ≤ floor_of board (before ++ rest) d }
+{}
+
+/// No attempt has a version below the floor in force where it stands.
+pub fn attempts_reach_the_floor()
+    ensures { (f : Formats) (board : BoardValue) (m : Machine) → IsReached f board m → AttemptsReachFloor m.board m.list }
+{}
+
+/// At most one spent unit is open, and it is the last.
+pub fn the_last_alone_is_open()
+    ensures { (f : Formats) (board : BoardValue) (m : Machine) → IsReached f board m → OpenIsLast m.list }
+{}
+
+/// Files have distinct names and distinct serials, and so have staged deliveries; no serial is above the last one.
+pub fn deliveries_are_apart()
+    ensures { (f : Formats) (board : BoardValue) (m : Machine) → IsReached f board m → AreApart m }
+{}
+
+/// The units of one delivery stand in order, without gaps from 0, and no key stands twice.
+pub fn units_stand_in_order()
+    ensures order { (f : Formats) (board : BoardValue) (m : Machine) → IsReached f board m → StandInOrder m.list }
+    ensures keys { (f : Formats) (board : BoardValue) (m : Machine) → IsReached f board m → HaveDistinctKeys m.list }
+{}
+
+/// A file of which units are spent has its serial in `kept`.
+pub fn spent_files_are_kept()
+    ensures { (f : Formats) (board : BoardValue) (m : Machine) → IsReached f board m → SpentFilesAreKept m }
+{}
+
+/// Files, staged deliveries and the serials in `kept` are within their limits. The serials of spent units and those in `kept`
+/// are at most the last ones, and a staged delivery has no spent unit.
+pub fn limits_are_kept()
+    ensures limits { (f : Formats) (board : BoardValue) (m : Machine) → IsReached f board m → IsWithinLimits m }
+    ensures serials { (f : Formats) (board : BoardValue) (m : Machine) → IsReached f board m → SerialsAreGiven m }
+{}
+
+/// A boot has fewer than 2^20 steps, finished or stopped, where a delivery holds at most 8 capsules.
+pub fn a_boot_is_short()
+    ensures { (f : Formats) (board : BoardValue) (m : Machine) → KeepsLimits f → IsBoard board → IsReached f board m →
+        (h : End) (j : ℕ) → (boot_at f m h j).report.steps < 2 ^ 20 }
+{}
+
+/// Events that tell no fault tell one trace and leave one machine, and there is such a run of any events.
+pub fn without_faults_there_is_one_machine()
+    ensures one { (f : Formats) (board : BoardValue) (acts : List Act) (told : List Said) (m : Machine) →
+        Run f (fresh board) acts told m → TellNoFault told →
+        (told ≡ trace_of f (fresh board) acts) × (m ≡ machine_after f (fresh board) acts) }
+    ensures some { (f : Formats) (board : BoardValue) (acts : List Act) →
+        Run f (fresh board) acts (trace_of f (fresh board) acts) (machine_after f (fresh board) acts) }
+{}
