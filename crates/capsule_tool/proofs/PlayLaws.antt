@@ -9,9 +9,9 @@ use Rattle.reset_play.specs.Plays.{is_of_files, is_thin_on, thin_trace}
 use Rattle.reset_play.specs.ScriptInputs.{inputs_of}
 use Rattle.reset_play.specs.ScriptText.{Said as ScriptSaid}
 use Rattle.reset_play.specs.Texts.{trace_text}
-use Rattle.reset_play.specs.Told.{said_of, told_of}
-use Rattle.reset_play.specs.declared.event.Event.{Event}
-use Rattle.reset_play.specs.declared.trace.Entry.{Entry}
+use Rattle.reference_machine.specs.Told.{said_of, told_of}
+use Rattle.reference_machine.specs.declared.event.Event.{Event}
+use Rattle.reference_machine.specs.declared.trace.Entry.{Entry}
 use Rattle.capsule_tool.specs.declared.answer.Answer.{Answer}
 use Rattle.capsule_tool.specs.declared.limits.TheConstants.{MAX_NAMED_BYTES}
 use Rattle.capsule_tool.specs.declared.status.Status.TheVariants.{Done}

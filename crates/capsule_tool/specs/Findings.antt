@@ -1,6 +1,6 @@
 -- What a run finds: its answer, and the trace of its play.
 use Rattle.std.specs.Prelude.{List, []}
-use Rattle.reset_play.specs.Told.{Said}
+use Rattle.reference_machine.specs.Told.{Said}
 use Rattle.capsule_tool.specs.declared.answer.Answer.{Answer}
 
 -- the answer, and what a play told of its events

@@ -11,8 +11,8 @@ use Rattle.reset_play.specs.Plays.{has_one_device, is_of_files, is_thin_on, thin
 use Rattle.reset_play.specs.ScriptInputs.{inputs_of}
 use Rattle.reset_play.specs.ScriptText.{Said as ScriptSaid, script_said}
 use Rattle.reset_play.specs.Texts.{trace_text}
-use Rattle.reset_play.specs.Told.{Said}
-use Rattle.reset_play.specs.declared.event.Event.{Event}
+use Rattle.reference_machine.specs.Told.{Said}
+use Rattle.reference_machine.specs.declared.event.Event.{Event}
 use Rattle.capsule_tool.specs.declared.limits.TheConstants.{MAX_TEXT_BYTES, MAX_NAMED_BYTES}
 use Rattle.capsule_tool.specs.declared.status.Status.TheVariants.{Done}
 use Rattle.capsule_tool.specs.Answers.{faulty_board, faulty_script, later, long}

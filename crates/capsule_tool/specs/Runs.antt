@@ -4,7 +4,7 @@ use Rattle.std.specs.Io.KnownBytes.{Appends, Keeps}
 use Rattle.cu_base.specs.Causes.{Rose, RoseBy}
 use Rattle.cu_io.specs.Named.{Named, IsMissing}
 use Rattle.cu_io.specs.Streams.{AppendsFront}
-use Rattle.reset_play.specs.Told.{Said}
+use Rattle.reference_machine.specs.Told.{Said}
 use Rattle.capsule_tool.specs.Answers.{usage, unread, long}
 use Rattle.capsule_tool.specs.Findings.{Finding}
 use Rattle.capsule_tool.specs.Readings.{Seen, MayPassLimit}

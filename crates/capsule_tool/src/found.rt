@@ -16,7 +16,7 @@ pub struct Found {
 
 impl Model for Found {
     ghost use Rattle.std.specs.Prelude.{map};
-    ghost use Rattle.reset_play.specs.Told.{said_of};
+    ghost use Rattle.reference_machine.specs.Told.{said_of};
     ghost use Rattle.capsule_tool.specs.Findings.{Finding};
 
     ghost Value = { Finding };

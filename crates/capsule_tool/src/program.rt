@@ -1,6 +1,6 @@
 ghost use Rattle.std.specs.Prelude.{◌≡◌, ◌≤◌, ◌⊎◌, [], map, IfOk, OnErr};
 ghost use Rattle.cu_base.specs.Causes.{Rose};
-ghost use Rattle.reset_play.specs.Told.{said_of};
+ghost use Rattle.reference_machine.specs.Told.{said_of};
 ghost use Rattle.capsule_tool.specs.Forms.{form_of};
 ghost use Rattle.capsule_tool.specs.Readings.{seen};
 ghost use Rattle.capsule_tool.specs.Runs.{AnswersAsTold, Judges, IsUsage, IsUnread, IsLong, Writes, EndsBy};
