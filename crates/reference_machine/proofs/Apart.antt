@@ -4,8 +4,8 @@ use Rattle.std.specs.List.{AllByRecursion}
 use Rattle.std.proofs.lemmas.Bool.Decides.{nat_tests}
 use Rattle.reference_machine.specs.declared.snapshot.StagedPair.{StagedPair}
 use Rattle.reference_machine.specs.declared.unit.End.{End}
-use Rattle.reference_machine.specs.Boots.{Work, Progress, Course, after, after_unit, after_steps, boot_at, boot_start, course_of, settled_with}
-use Rattle.reference_machine.specs.Boots.Work.{Settles, Unstages, Does, Prunes, Removes, Clears}
+use Rattle.reference_machine.specs.Boots.{BootTask, BootState, Course, after, after_unit, after_steps, boot_at, boot_start, course_of, settled_with}
+use Rattle.reference_machine.specs.Boots.BootTask.{Settles, Unstages, Does, Prunes, Removes, Clears}
 use Rattle.reference_machine.specs.Boots.Course.{Claim, Close}
 use Rattle.reference_machine.specs.Deliveries.{BootUnit}
 use Rattle.reference_machine.specs.Events.{with_file}
@@ -86,11 +86,11 @@ pub settled_apart : (m : Machine) (end : End) (o : Option Element) → AreApart 
 settled_apart m end None a = a
 settled_apart m end (Some e) a = record { names = a.names; files = a.files; last_file = a.last_file; staged = a.staged; last_staged = a.last_staged }
 
-unit_apart : (f : Formats) (b : Progress) (u : BootUnit) (rest : List Work) (c : Course) → AreApart b.machine → AreApart (after_unit f b u rest c).machine
+unit_apart : (f : Formats) (b : BootState) (u : BootUnit) (rest : List BootTask) (c : Course) → AreApart b.machine → AreApart (after_unit f b u rest c).machine
 unit_apart f b u rest Claim a = record { names = a.names; files = a.files; last_file = a.last_file; staged = a.staged; last_staged = a.last_staged }
 unit_apart f b u rest (Close end) a = record { names = a.names; files = a.files; last_file = a.last_file; staged = a.staged; last_staged = a.last_staged }
 
-pub after_apart : (f : Formats) (b : Progress) (left : List Work) → AreApart b.machine → AreApart (after f b left).machine
+pub after_apart : (f : Formats) (b : BootState) (left : List BootTask) → AreApart b.machine → AreApart (after f b left).machine
 after_apart f b [] a = a
 after_apart f b (Settles kind end ∷ rest) a = settled_apart b.machine end (find is_open b.machine.list) a
 after_apart f b (Unstages pair ∷ rest) a = record {
@@ -111,7 +111,7 @@ after_apart f b (Removes serial ∷ rest) a = record {
 }
 after_apart f b (Clears ∷ rest) a = record { names = a.names; files = a.files; last_file = a.last_file; staged = a.staged; last_staged = a.last_staged }
 
-steps_apart : (f : Formats) (n : ℕ) (b : Progress) → AreApart b.machine → AreApart (after_steps f n b).machine
+steps_apart : (f : Formats) (n : ℕ) (b : BootState) → AreApart b.machine → AreApart (after_steps f n b).machine
 steps_apart f zero b a = a
 steps_apart f (suc n) b a = after_apart f (after_steps f n b) (after_steps f n b).left (steps_apart f n b a)
 

@@ -3,8 +3,8 @@ use Rattle.std.proofs.Common.{◌≡◌, ℕ, ◌+◌, ◌<◌, ◌≤◌, ◌�
 use Rattle.std.specs.List.{AllByRecursion, list_any}
 use Rattle.std.proofs.lemmas.Bool.Decides.{nat_tests}
 use Rattle.reference_machine.specs.declared.unit.UnitKey.{UnitKey}
-use Rattle.reference_machine.specs.Boots.{Work, kept_with}
-use Rattle.reference_machine.specs.Boots.Work.{Settles, Unstages, Does, Prunes, Removes, Clears}
+use Rattle.reference_machine.specs.Boots.{BootTask, progress_with}
+use Rattle.reference_machine.specs.Boots.BootTask.{Settles, Unstages, Does, Prunes, Removes, Clears}
 use Rattle.reference_machine.specs.Deliveries.{BootUnit}
 use Rattle.reference_machine.specs.Machine.{File}
 use Rattle.reference_machine.specs.Spent.{Element, is_of, is_open, is_closed, spent}
@@ -69,32 +69,32 @@ has_last [] n = or_left (n == n) false (same n)
 has_last (k ∷ ks) n = or_right (k == n) _ (has_last ks n)
 
 -- what is kept stays when one more serial is kept
-pub kept_stays : (kept : List ℕ) (key : UnitKey) (s : ℕ) → has kept s ≡ true → has (kept_with kept key) s ≡ true
-kept_stays kept key s h =
-    elim (key.ticket.route == 1) as (λ r. has (cond r (cond (has kept key.ticket.serial) kept (kept ++ key.ticket.serial ∷ [])) kept) s ≡ true) [
+pub kept_stays : (in_progress : List ℕ) (key : UnitKey) (s : ℕ) → has in_progress s ≡ true → has (progress_with in_progress key) s ≡ true
+kept_stays in_progress key s h =
+    elim (key.ticket.route == 1) as (λ r. has (cond r (cond (has in_progress key.ticket.serial) in_progress (in_progress ++ key.ticket.serial ∷ [])) in_progress) s ≡ true) [
       | true ↦
-          elim (has kept key.ticket.serial) as (λ b. has (cond b kept (kept ++ key.ticket.serial ∷ [])) s ≡ true) [
+          elim (has in_progress key.ticket.serial) as (λ b. has (cond b in_progress (in_progress ++ key.ticket.serial ∷ [])) s ≡ true) [
             | true ↦ h
-            | false ↦ has_front kept key.ticket.serial s h
+            | false ↦ has_front in_progress key.ticket.serial s h
           ]
       | false ↦ h
     ]
 
-one_kept : (kept : List ℕ) (n : ℕ) → has (cond (has kept n) kept (kept ++ n ∷ [])) n ≡ true
-one_kept kept n = by_test (has kept n) refl
+one_kept : (in_progress : List ℕ) (n : ℕ) → has (cond (has in_progress n) in_progress (in_progress ++ n ∷ [])) n ≡ true
+one_kept in_progress n = by_test (has in_progress n) refl
   where
-    by_test : (b : Bool) → has kept n ≡ b → has (cond b kept (kept ++ n ∷ [])) n ≡ true
+    by_test : (b : Bool) → has in_progress n ≡ b → has (cond b in_progress (in_progress ++ n ∷ [])) n ≡ true
     by_test true e = e
-    by_test false e = has_last kept n
+    by_test false e = has_last in_progress n
 
 -- and that of a unit of a file is kept
-pub unit_kept : (kept : List ℕ) (key : UnitKey) (s : ℕ) → is_of 1 s key ≡ true → has (kept_with kept key) s ≡ true
-unit_kept kept key s h =
+pub unit_kept : (in_progress : List ℕ) (key : UnitKey) (s : ℕ) → is_of 1 s key ≡ true → has (progress_with in_progress key) s ≡ true
+unit_kept in_progress key s h =
     let route : (key.ticket.route == 1) ≡ true = both_left (key.ticket.route == 1) (key.ticket.serial == s) h in
     let serial : key.ticket.serial ≡ s = same_of key.ticket.serial s (both_right (key.ticket.route == 1) (key.ticket.serial == s) h) in
-    let kept_all : List ℕ = cond (has kept key.ticket.serial) kept (kept ++ key.ticket.serial ∷ []) in
-    let at : has (cond (key.ticket.route == 1) kept_all kept) key.ticket.serial ≡ true = ap (λ r. has (cond r kept_all kept) key.ticket.serial) route ∙ one_kept kept key.ticket.serial in
-    subst (λ i. has (cond (key.ticket.route == 1) kept_all kept) i ≡ true) serial at
+    let kept_all : List ℕ = cond (has in_progress key.ticket.serial) in_progress (in_progress ++ key.ticket.serial ∷ []) in
+    let at : has (cond (key.ticket.route == 1) kept_all in_progress) key.ticket.serial ≡ true = ap (λ r. has (cond r kept_all in_progress) key.ticket.serial) route ∙ one_kept in_progress key.ticket.serial in
+    subst (λ i. has (cond (key.ticket.route == 1) kept_all in_progress) i ≡ true) serial at
 
 -- one more element
 filter_more : {X : Type 0} (p : X → Bool) (xs : List X) (x : X) → length (filter p (xs ++ x ∷ [])) ≡ length (filter p xs) + cond (p x) 1 0
@@ -111,27 +111,27 @@ spent_more list e s = filter_more (λ x. is_of 1 s x.key && is_closed x) list e
 
 -- nothing is spent of a file, or its serial is kept
 abbrev pub IsKept : List Element → List ℕ → ℕ → Type 0
-IsKept list kept s = 0 < spent list s → has kept s ≡ true
+IsKept list in_progress s = 0 < spent list s → has in_progress s ≡ true
 
-pub kept_more : (list : List Element) (kept : List ℕ) (e : Element) (s : ℕ) → IsKept list kept s → IsKept (list ++ e ∷ []) (kept_with kept e.key) s
-kept_more list kept e s h lt = by_test (is_of 1 s e.key) refl
+pub kept_more : (list : List Element) (in_progress : List ℕ) (e : Element) (s : ℕ) → IsKept list in_progress s → IsKept (list ++ e ∷ []) (progress_with in_progress e.key) s
+kept_more list in_progress e s h lt = by_test (is_of 1 s e.key) refl
   where
-    by_test : (b : Bool) → is_of 1 s e.key ≡ b → has (kept_with kept e.key) s ≡ true
-    by_test true k = unit_kept kept e.key s k
+    by_test : (b : Bool) → is_of 1 s e.key ≡ b → has (progress_with in_progress e.key) s ≡ true
+    by_test true k = unit_kept in_progress e.key s k
     by_test false k =
         let more : spent (list ++ e ∷ []) s ≡ spent list s + cond (is_of 1 s e.key && is_closed e) 1 0 = spent_more list e s in
         let none : cond {A = ℕ} (is_of 1 s e.key && is_closed e) 1 0 ≡ 0 = ap (λ b. cond {A = ℕ} (b && is_closed e) 1 0) k in
         let before : 0 < spent list s = omega arith in
-        kept_stays kept e.key s (h before)
+        kept_stays in_progress e.key s (h before)
 
-pub kept_front : (list : List Element) (kept : List ℕ) (e : Element) (s : ℕ) → IsKept (list ++ e ∷ []) kept s → IsKept list kept s
-kept_front list kept e s h lt =
+pub kept_front : (list : List Element) (in_progress : List ℕ) (e : Element) (s : ℕ) → IsKept (list ++ e ∷ []) in_progress s → IsKept list in_progress s
+kept_front list in_progress e s h lt =
     let more : spent (list ++ e ∷ []) s ≡ spent list s + cond (is_of 1 s e.key && is_closed e) 1 0 = spent_more list e s in
     let later : 0 < spent (list ++ e ∷ []) s = omega arith in
     h later
 
-pub kept_open : (list : List Element) (kept : List ℕ) (e : Element) (s : ℕ) → is_open e ≡ true → IsKept list kept s → IsKept (list ++ e ∷ []) kept s
-kept_open list kept e s is h lt =
+pub kept_open : (list : List Element) (in_progress : List ℕ) (e : Element) (s : ℕ) → is_open e ≡ true → IsKept list in_progress s → IsKept (list ++ e ∷ []) in_progress s
+kept_open list in_progress e s is h lt =
     let more : spent (list ++ e ∷ []) s ≡ spent list s + cond (is_of 1 s e.key && is_closed e) 1 0 = spent_more list e s in
     let none : cond {A = ℕ} (is_of 1 s e.key && is_closed e) 1 0 ≡ 0 = ap (λ b. cond {A = ℕ} (is_of 1 s e.key && not b) 1 0) is ∙ never (is_of 1 s e.key) in
     let before : 0 < spent list s = omega arith in
@@ -146,7 +146,7 @@ abbrev pub IsKnown : ℕ → List ℕ → UnitKey → Type 0
 IsKnown last serials key = ((key.ticket.route ≡ 0) × (key.ticket.serial ≤ last)) ⊎ ((key.ticket.route ≡ 1) × (has serials key.ticket.serial ≡ true))
 
 -- and so is each that is left
-abbrev pub Known : ℕ → List ℕ → List Work → Type 0
+abbrev pub Known : ℕ → List ℕ → List BootTask → Type 0
 Known last serials [] = Unit {0}
 Known last serials (Settles kind end ∷ rest) = Known last serials rest
 Known last serials (Unstages pair ∷ rest) = Known last serials rest
@@ -155,7 +155,7 @@ Known last serials (Prunes ∷ rest) = Known last serials rest
 Known last serials (Removes serial ∷ rest) = Known last serials rest
 Known last serials (Clears ∷ rest) = Known last serials rest
 
-pub known_append : (last : ℕ) (serials : List ℕ) (xs ys : List Work) → Known last serials xs → Known last serials ys → Known last serials (xs ++ ys)
+pub known_append : (last : ℕ) (serials : List ℕ) (xs ys : List BootTask) → Known last serials xs → Known last serials ys → Known last serials (xs ++ ys)
 known_append last serials [] ys a b = b
 known_append last serials (Settles kind end ∷ xs) ys a b = known_append last serials xs ys a b
 known_append last serials (Unstages pair ∷ xs) ys a b = known_append last serials xs ys a b
@@ -172,7 +172,7 @@ known_units last serials r s n (u ∷ us) h w =
     (here, known_units last serials r s (n + 1) us h.1 w)
 
 -- no file is left where the request for the files is cleared
-abbrev pub Empties : List File → List Work → Type 0
+abbrev pub Empties : List File → List BootTask → Type 0
 Empties files [] = Unit {0}
 Empties files (Settles kind end ∷ rest) = Empties files rest
 Empties files (Unstages pair ∷ rest) = Empties files rest
@@ -181,6 +181,6 @@ Empties files (Prunes ∷ rest) = Empties files rest
 Empties files (Removes serial ∷ rest) = Empties (filter (λ x. not (x.serial == serial)) files) rest
 Empties files (Clears ∷ rest) = (files ≡ []) × Empties files rest
 
-pub empties_does : (us : List BootUnit) (files : List File) (rest : List Work) → Empties files rest → Empties files (map Does us ++ rest)
+pub empties_does : (us : List BootUnit) (files : List File) (rest : List BootTask) → Empties files rest → Empties files (map Does us ++ rest)
 empties_does [] files rest e = e
 empties_does (u ∷ us) files rest e = empties_does us files rest e

@@ -5,12 +5,13 @@ use Rattle.std.proofs.lemmas.Bool.Decides.{nat_tests}
 use Rattle.reference_machine.specs.declared.snapshot.StagedPair.{StagedPair}
 use Rattle.reference_machine.specs.declared.unit.End.{End}
 use Rattle.reference_machine.specs.declared.unit.UnitKey.{UnitKey}
-use Rattle.reference_machine.specs.Boots.{Work, Progress, Course, after, after_unit, after_steps, boot_start, boot_at, boot_work, work_with, staged_work, folder_work, file_work, file_delivery, files_in_order, pair_work, memory_delivery, staged_in_order, prune_work, course_of, settled, settled_with}
-use Rattle.reference_machine.specs.Boots.Work.{Settles, Unstages, Does, Prunes, Removes, Clears}
+use Rattle.reference_machine.specs.Boots.{BootTask, BootState, Course, after, after_unit, after_steps, boot_start, boot_at, boot_tasks, tasks_with, staged_tasks, folder_tasks, file_tasks, file_delivery, files_in_order, pair_tasks, memory_delivery, staged_in_order, prune_tasks, course_of, settled, settled_with}
+use Rattle.reference_machine.specs.Boots.BootTask.{Settles, Unstages, Does, Prunes, Removes, Clears}
 use Rattle.reference_machine.specs.Boots.Course.{Claim, Close}
 use Rattle.reference_machine.specs.Deliveries.{BootUnit, pieces, units}
 use Rattle.reference_machine.specs.Formats.{Formats}
-use Rattle.reference_machine.specs.Laws.{IsHeldEnd, AreApart}
+use Rattle.reference_machine.specs.Laws.{AreApart}
+use Rattle.reference_machine.specs.Stops.{IsHeldEnd}
 use Rattle.reference_machine.specs.Machine.{Machine, File}
 use Rattle.reference_machine.specs.Spent.{Element, is_of, is_open, spent}
 use Rattle.reference_machine.proofs.Apart.{all_kept, all_imply, all_more, kept_pass, no_longer, settled_apart, boot_apart, apart_keeps}
@@ -26,7 +27,7 @@ pub record Keyed (m : Machine) : Type 0 where
   pub below : AllByRecursion (λ (k : UnitKey). (k.ticket.route == 0) ≡ true → k.ticket.serial ≤ m.last_staged) (keys_of m.list)
 
 -- the units by memory that are left are of deliveries that wait no longer
-abbrev pub Waits : ℕ → List StagedPair → List Work → Type 0
+abbrev pub Waits : ℕ → List StagedPair → List BootTask → Type 0
 Waits last staged [] = Unit {0}
 Waits last staged (Settles kind end ∷ rest) = Waits last staged rest
 Waits last staged (Unstages p ∷ rest) = Waits last (filter (λ q. not (q.serial == p.serial)) staged) rest
@@ -36,13 +37,13 @@ Waits last staged (Prunes ∷ rest) = Waits last staged rest
 Waits last staged (Removes serial ∷ rest) = Waits last staged rest
 Waits last staged (Clears ∷ rest) = Waits last staged rest
 
-pub record Runs (m : Machine) (left : List Work) : Type 0 where
+pub record Runs (m : Machine) (left : List BootTask) : Type 0 where
   pub keyed : Keyed m
   pub ahead : Ahead (keys_of m.list) left
   pub waits : Waits m.last_staged m.staged left
 
 -- the same keys, staged deliveries and last serial
-runs_same : (m n : Machine) (left : List Work) → keys_of n.list ≡ keys_of m.list → n.staged ≡ m.staged → n.last_staged ≡ m.last_staged → Runs m left → Runs n left
+runs_same : (m n : Machine) (left : List BootTask) → keys_of n.list ≡ keys_of m.list → n.staged ≡ m.staged → n.last_staged ≡ m.last_staged → Runs m left → Runs n left
 runs_same m n left ek es el r =
     let on_last : (l : ℕ) → List StagedPair → List UnitKey → Type 0 = λ l ss ks.
     Gapless [] ks × AllByRecursion (λ (p : StagedPair). count 0 p.serial ks ≡ 0) ss
@@ -74,7 +75,7 @@ not_waiting k s h = by_route (k.ticket.route == 0) refl
     by_route false e = refl
 
 -- the machine with one more element
-element_runs : (m n : Machine) (u : BootUnit) (rest : List Work) → keys_of n.list ≡ keys_of m.list ++ u.key ∷ [] → n.staged ≡ m.staged → n.last_staged ≡ m.last_staged → Runs m (Does u ∷ rest) → Runs n rest
+element_runs : (m n : Machine) (u : BootUnit) (rest : List BootTask) → keys_of n.list ≡ keys_of m.list ++ u.key ∷ [] → n.staged ≡ m.staged → n.last_staged ≡ m.last_staged → Runs m (Does u ∷ rest) → Runs n rest
 element_runs m n u rest ek es el r =
     let keys : List UnitKey = keys_of m.list in
     let on_last : (l : ℕ) → List StagedPair → List UnitKey → Type 0 = λ l ss ks.
@@ -99,13 +100,13 @@ element_runs m n u rest ek es el r =
     still_waiting (p ∷ ps) all h =
         (count_other 0 p.serial (keys_of m.list) u.key (not_waiting u.key p.serial (λ e. (h e).0)) ∙ all.0, still_waiting ps all.1 (λ e. (h e).1))
 
-unit_runs : (f : Formats) (b : Progress) (u : BootUnit) (rest : List Work) (c : Course) → Runs b.machine (Does u ∷ rest) → Runs (after_unit f b u rest c).machine (after_unit f b u rest c).left
+unit_runs : (f : Formats) (b : BootState) (u : BootUnit) (rest : List BootTask) (c : Course) → Runs b.machine (Does u ∷ rest) → Runs (after_unit f b u rest c).machine (after_unit f b u rest c).left
 unit_runs f b u rest Claim r =
     let n : Runs (after_unit f b u rest Claim).machine rest = element_runs b.machine (after_unit f b u rest Claim).machine u rest (keys_append b.machine.list _) refl refl r in
     record { keyed = n.keyed; ahead = n.ahead; waits = n.waits }
 unit_runs f b u rest (Close end) r = element_runs b.machine (after_unit f b u rest (Close end)).machine u rest (keys_append b.machine.list _) refl refl r
 
-after_runs : (f : Formats) (b : Progress) (left : List Work) → b.left ≡ left → Runs b.machine left → Runs (after f b left).machine (after f b left).left
+after_runs : (f : Formats) (b : BootState) (left : List BootTask) → b.left ≡ left → Runs b.machine left → Runs (after f b left).machine (after f b left).left
 after_runs f b [] e r = subst (Runs b.machine) (sym e) r
 after_runs f b (Settles kind end ∷ rest) e r =
     let found : Option Element = find is_open b.machine.list in
@@ -125,7 +126,7 @@ after_runs f b (Prunes ∷ rest) e r = record { keyed = record { gapless = r.key
 after_runs f b (Removes serial ∷ rest) e r = record { keyed = record { gapless = r.keyed.gapless; waiting = r.keyed.waiting; below = r.keyed.below }; ahead = r.ahead; waits = r.waits }
 after_runs f b (Clears ∷ rest) e r = record { keyed = record { gapless = r.keyed.gapless; waiting = r.keyed.waiting; below = r.keyed.below }; ahead = r.ahead; waits = r.waits }
 
-steps_runs : (f : Formats) (n : ℕ) (b : Progress) → Runs b.machine b.left → Runs (after_steps f n b).machine (after_steps f n b).left
+steps_runs : (f : Formats) (n : ℕ) (b : BootState) → Runs b.machine b.left → Runs (after_steps f n b).machine (after_steps f n b).left
 steps_runs f zero b r = r
 steps_runs f (suc n) b r = after_runs f (after_steps f n b) (after_steps f n b).left refl (steps_runs f n b r)
 
@@ -134,97 +135,97 @@ each_true : {X : Type 0} (P : X → Type 0) → ((x : X) → P x) → (xs : List
 each_true P h [] = tt
 each_true P h (x ∷ xs) = (h x, each_true P h xs)
 
-prune_ahead : (m : Machine) (keys : List UnitKey) (rest : List Work) → Ahead keys rest → Ahead keys (prune_work m ++ rest)
+prune_ahead : (m : Machine) (keys : List UnitKey) (rest : List BootTask) → Ahead keys rest → Ahead keys (prune_tasks m ++ rest)
 prune_ahead m keys rest a = by_test _
   where
     by_test : (t : Bool) → Ahead keys (cond t (Prunes ∷ []) [] ++ rest)
     by_test true = a
     by_test false = a
 
-folder_ahead : (f : Formats) (m : Machine) (keys : List UnitKey) → NoneOpen m.list → AreApart m → ((s : ℕ) → count 1 s keys ≡ count 1 s (keys_of m.list)) → Ahead keys (folder_work f m)
-folder_ahead f m keys none a same = by_bit m.bit
+folder_ahead : (f : Formats) (m : Machine) (keys : List UnitKey) → NoneOpen m.list → AreApart m → ((s : ℕ) → count 1 s keys ≡ count 1 s (keys_of m.list)) → Ahead keys (folder_tasks f m)
+folder_ahead f m keys none a same = by_bit m.is_signalled
   where
-    files : List Work
-    files = flat_map (file_work f m) (files_in_order m)
+    files : List BootTask
+    files = flat_map (file_tasks f m) (files_in_order m)
 
     done : Ahead keys (files ++ Clears ∷ [])
     done = files_ahead f m (files_in_order m) keys (Clears ∷ []) (λ ks. tt)
         (distinct_ordered (λ (x y : File). x.serial == y.serial) (λ x y. Rattle.reference_machine.specs.Names.is_taken_before x.name y.name) (λ x y h. turned x.serial y.serial h) m.files a.files)
         (each_true (λ (x : File). count 1 x.serial keys ≡ spent m.list x.serial) (λ x. same x.serial ∙ sym (spent_all m.list x.serial none)) (files_in_order m))
 
-    by_bit : (t : Bool) → Ahead keys (cond t (prune_work m ++ files ++ Clears ∷ []) [])
-    by_bit true = subst (Ahead keys) (sym (append_assoc (prune_work m) files (Clears ∷ []))) (prune_ahead m keys (files ++ Clears ∷ []) done)
+    by_bit : (t : Bool) → Ahead keys (cond t (prune_tasks m ++ files ++ Clears ∷ []) [])
+    by_bit true = subst (Ahead keys) (sym (append_assoc (prune_tasks m) files (Clears ∷ []))) (prune_ahead m keys (files ++ Clears ∷ []) done)
     by_bit false = tt
 
-work_ahead : (f : Formats) (m : Machine) → NoneOpen m.list → AreApart m → Keyed m → Ahead (keys_of m.list) (staged_work f m ++ folder_work f m)
+work_ahead : (f : Formats) (m : Machine) → NoneOpen m.list → AreApart m → Keyed m → Ahead (keys_of m.list) (staged_tasks f m ++ folder_tasks f m)
 work_ahead f m none a k =
-    staged_ahead f m (staged_in_order m) (keys_of m.list) (folder_work f m) (λ ks same. folder_ahead f m ks none a same)
+    staged_ahead f m (staged_in_order m) (keys_of m.list) (folder_tasks f m) (λ ks same. folder_ahead f m ks none a same)
     (distinct_ordered (λ (x y : StagedPair). x.serial == y.serial) (λ x y. Rattle.std.specs.Prelude.nat_lt x.serial y.serial) (λ x y h. turned x.serial y.serial h) m.staged a.staged)
     (all_ordered (λ (p : StagedPair). count 0 p.serial (keys_of m.list) ≡ 0) (λ x y. Rattle.std.specs.Prelude.nat_lt x.serial y.serial) m.staged k.waiting)
 
 -- and its units by memory wait no longer when they are done
-does_wait : (r s n last : ℕ) (us : List BootUnit) (staged : List StagedPair) (rest : List Work) → Numbered r s n us → ((r == 0) ≡ true → (s ≤ last) × AllByRecursion (λ (q : StagedPair). (q.serial == s) ≡ false) staged) → Waits last staged rest → Waits last staged (map Does us ++ rest)
+does_wait : (r s n last : ℕ) (us : List BootUnit) (staged : List StagedPair) (rest : List BootTask) → Numbered r s n us → ((r == 0) ≡ true → (s ≤ last) × AllByRecursion (λ (q : StagedPair). (q.serial == s) ≡ false) staged) → Waits last staged rest → Waits last staged (map Does us ++ rest)
 does_wait r s n last [] staged rest h w later = later
 does_wait r s n last (u ∷ us) staged rest h w later =
     let here : (u.key.ticket.route == 0) ≡ true → (u.key.ticket.serial ≤ last) × AllByRecursion (λ (q : StagedPair). (q.serial == u.key.ticket.serial) ≡ false) staged =
     λ e. subst (λ i. (i ≤ last) × AllByRecursion (λ (q : StagedPair). (q.serial == i) ≡ false) staged) (sym h.0.serial) (w (ap (λ i. i == 0) (sym h.0.route) ∙ e)) in
     (here, does_wait r s (n + 1) last us staged rest h.1 w later)
 
-staged_wait : (f : Formats) (m : Machine) (last : ℕ) (ps : List StagedPair) (staged : List StagedPair) (rest : List Work) → AllByRecursion (λ (p : StagedPair). p.serial ≤ last) ps → ((ss : List StagedPair) → Waits last ss rest) → Waits last staged (flat_map (pair_work f m) ps ++ rest)
+staged_wait : (f : Formats) (m : Machine) (last : ℕ) (ps : List StagedPair) (staged : List StagedPair) (rest : List BootTask) → AllByRecursion (λ (p : StagedPair). p.serial ≤ last) ps → ((ss : List StagedPair) → Waits last ss rest) → Waits last staged (flat_map (pair_tasks f m) ps ++ rest)
 staged_wait f m last [] staged rest all free = free staged
 staged_wait f m last (p ∷ ps) staged rest all free =
     let us : List BootUnit = units f (memory_delivery f m p) m.board in
-    let kept : List StagedPair = filter (λ q. not (q.serial == p.serial)) staged in
+    let in_progress : List StagedPair = filter (λ q. not (q.serial == p.serial)) staged in
     let numbered : Numbered 0 p.serial 0 us = all_numbered (memory_delivery f m p) 0 (pieces m.board (option_and_then f.capsules (memory_delivery f m p).bytes)) in
-    let gone : AllByRecursion (λ (q : StagedPair). (q.serial == p.serial) ≡ false) kept =
-    all_imply (λ (q : StagedPair). not (q.serial == p.serial) ≡ true) (λ (q : StagedPair). (q.serial == p.serial) ≡ false) (λ q h. no_longer (q.serial == p.serial) h) kept (kept_pass (λ q. not (q.serial == p.serial)) staged) in
-    subst (Waits last kept) (sym (append_assoc (map Does us) (flat_map (pair_work f m) ps) rest))
-    (does_wait 0 p.serial 0 last us kept (flat_map (pair_work f m) ps ++ rest) numbered (λ e. (all.0, gone)) (staged_wait f m last ps kept rest all.1 free))
+    let gone : AllByRecursion (λ (q : StagedPair). (q.serial == p.serial) ≡ false) in_progress =
+    all_imply (λ (q : StagedPair). not (q.serial == p.serial) ≡ true) (λ (q : StagedPair). (q.serial == p.serial) ≡ false) (λ q h. no_longer (q.serial == p.serial) h) in_progress (kept_pass (λ q. not (q.serial == p.serial)) staged) in
+    subst (Waits last in_progress) (sym (append_assoc (map Does us) (flat_map (pair_tasks f m) ps) rest))
+    (does_wait 0 p.serial 0 last us in_progress (flat_map (pair_tasks f m) ps ++ rest) numbered (λ e. (all.0, gone)) (staged_wait f m last ps in_progress rest all.1 free))
 
-files_wait : (f : Formats) (m : Machine) (last : ℕ) (xs : List File) (staged : List StagedPair) (rest : List Work) → Waits last staged rest → Waits last staged (flat_map (file_work f m) xs ++ rest)
+files_wait : (f : Formats) (m : Machine) (last : ℕ) (xs : List File) (staged : List StagedPair) (rest : List BootTask) → Waits last staged rest → Waits last staged (flat_map (file_tasks f m) xs ++ rest)
 files_wait f m last [] staged rest later = later
 files_wait f m last (x ∷ xs) staged rest later =
     let us : List BootUnit = drop (spent m.list x.serial) (units f (file_delivery x) m.board) in
     let numbered : Numbered 1 x.serial (0 + spent m.list x.serial) us = rest_numbered 1 x.serial 0 (spent m.list x.serial) (units f (file_delivery x) m.board) (all_numbered (file_delivery x) 0 (pieces m.board (option_and_then f.capsules (file_delivery x).bytes))) in
-    let split : (map Does us ++ Removes x.serial ∷ []) ++ flat_map (file_work f m) xs ++ rest ≡ map Does us ++ (Removes x.serial ∷ (flat_map (file_work f m) xs ++ rest)) =
-    append_assoc (map Does us ++ Removes x.serial ∷ []) (flat_map (file_work f m) xs) rest ∙ append_assoc (map Does us) (Removes x.serial ∷ []) (flat_map (file_work f m) xs ++ rest) in
+    let split : (map Does us ++ Removes x.serial ∷ []) ++ flat_map (file_tasks f m) xs ++ rest ≡ map Does us ++ (Removes x.serial ∷ (flat_map (file_tasks f m) xs ++ rest)) =
+    append_assoc (map Does us ++ Removes x.serial ∷ []) (flat_map (file_tasks f m) xs) rest ∙ append_assoc (map Does us) (Removes x.serial ∷ []) (flat_map (file_tasks f m) xs ++ rest) in
     let no : (1 == 0) ≡ true → (x.serial ≤ last) × AllByRecursion (λ (q : StagedPair). (q.serial == x.serial) ≡ false) staged = λ e. absurd (cc) in
-    subst (Waits last staged) (sym split) (does_wait 1 x.serial (0 + spent m.list x.serial) last us staged (Removes x.serial ∷ (flat_map (file_work f m) xs ++ rest)) numbered no (files_wait f m last xs staged rest later))
+    subst (Waits last staged) (sym split) (does_wait 1 x.serial (0 + spent m.list x.serial) last us staged (Removes x.serial ∷ (flat_map (file_tasks f m) xs ++ rest)) numbered no (files_wait f m last xs staged rest later))
 
-prune_wait : (m : Machine) (last : ℕ) (staged : List StagedPair) (rest : List Work) → Waits last staged rest → Waits last staged (prune_work m ++ rest)
+prune_wait : (m : Machine) (last : ℕ) (staged : List StagedPair) (rest : List BootTask) → Waits last staged rest → Waits last staged (prune_tasks m ++ rest)
 prune_wait m last staged rest w = by_test _
   where
     by_test : (t : Bool) → Waits last staged (cond t (Prunes ∷ []) [] ++ rest)
     by_test true = w
     by_test false = w
 
-folder_wait : (f : Formats) (m : Machine) (last : ℕ) (staged : List StagedPair) → Waits last staged (folder_work f m)
-folder_wait f m last staged = by_bit m.bit
+folder_wait : (f : Formats) (m : Machine) (last : ℕ) (staged : List StagedPair) → Waits last staged (folder_tasks f m)
+folder_wait f m last staged = by_bit m.is_signalled
   where
-    files : List Work
-    files = flat_map (file_work f m) (files_in_order m)
+    files : List BootTask
+    files = flat_map (file_tasks f m) (files_in_order m)
 
-    by_bit : (t : Bool) → Waits last staged (cond t (prune_work m ++ files ++ Clears ∷ []) [])
-    by_bit true = subst (Waits last staged) (sym (append_assoc (prune_work m) files (Clears ∷ []))) (prune_wait m last staged (files ++ Clears ∷ []) (files_wait f m last (files_in_order m) staged (Clears ∷ []) tt))
+    by_bit : (t : Bool) → Waits last staged (cond t (prune_tasks m ++ files ++ Clears ∷ []) [])
+    by_bit true = subst (Waits last staged) (sym (append_assoc (prune_tasks m) files (Clears ∷ []))) (prune_wait m last staged (files ++ Clears ∷ []) (files_wait f m last (files_in_order m) staged (Clears ∷ []) tt))
     by_bit false = tt
 
-work_waits : (f : Formats) (m : Machine) → AreApart m → Waits m.last_staged m.staged (staged_work f m ++ folder_work f m)
+work_waits : (f : Formats) (m : Machine) → AreApart m → Waits m.last_staged m.staged (staged_tasks f m ++ folder_tasks f m)
 work_waits f m a =
-    staged_wait f m m.last_staged (staged_in_order m) m.staged (folder_work f m)
+    staged_wait f m m.last_staged (staged_in_order m) m.staged (folder_tasks f m)
     (all_ordered (λ (p : StagedPair). p.serial ≤ m.last_staged) (λ x y. Rattle.std.specs.Prelude.nat_lt x.serial y.serial) m.staged a.last_staged)
     (λ ss. folder_wait f m m.last_staged ss)
 
-work_runs : (f : Formats) (m : Machine) → NoneOpen m.list → AreApart m → Keyed m → Runs m (staged_work f m ++ folder_work f m)
+work_runs : (f : Formats) (m : Machine) → NoneOpen m.list → AreApart m → Keyed m → Runs m (staged_tasks f m ++ folder_tasks f m)
 work_runs f m none a k = record { keyed = k; ahead = work_ahead f m none a k; waits = work_waits f m a }
 
 -- a boot begins so
-start_runs : (f : Formats) (m : Machine) (h : End) → IsHeldEnd h → Sound m → AreApart m → Keyed m → Runs m (boot_work f m h)
+start_runs : (f : Formats) (m : Machine) (h : End) → IsHeldEnd h → Sound m → AreApart m → Keyed m → Runs m (boot_tasks f m h)
 start_runs f m h held (inl r) a k =
-    let is : boot_work f m h ≡ work_with f m h None = ap (work_with f m h) (find_none m.list r.none) in
+    let is : boot_tasks f m h ≡ tasks_with f m h None = ap (tasks_with f m h) (find_none m.list r.none) in
     subst (Runs m) (sym is) (work_runs f m r.none a k)
 start_runs f m h held (inr p) a k =
     let found : find is_open m.list ≡ Some p.last = ap (find is_open) p.parts ∙ find_last p.front p.last p.none p.is_last in
-    let is : boot_work f m h ≡ work_with f m h (Some p.last) = ap (work_with f m h) found in
+    let is : boot_tasks f m h ≡ tasks_with f m h (Some p.last) = ap (tasks_with f m h) found in
     let healed : Machine = settled_with m h (Some p.last) in
     let same : settled m h ≡ healed = ap (settled_with m h) found in
     let rests : Rests healed.board healed.list = settled_list m.board m.list h m.now held p in
@@ -232,8 +233,8 @@ start_runs f m h held (inr p) a k =
     let apart : AreApart (settled m h) = settled_apart m h (find is_open m.list) a in
     let o : Option Element = find is_open m.list in
     let keyed : Keyed (settled m h) = (runs_same m (settled m h) [] (settled_keys m h o) (settled_staged m h o) (settled_last m h o) (record { keyed = k; ahead = tt; waits = tt })).keyed in
-    let there : Runs (settled m h) (staged_work f (settled m h) ++ folder_work f (settled m h)) = work_runs f (settled m h) none apart keyed in
-    let here : Runs m (staged_work f (settled m h) ++ folder_work f (settled m h)) = runs_same (settled m h) m _ (sym (settled_keys m h o)) (sym (settled_staged m h o)) (sym (settled_last m h o)) there in
+    let there : Runs (settled m h) (staged_tasks f (settled m h) ++ folder_tasks f (settled m h)) = work_runs f (settled m h) none apart keyed in
+    let here : Runs m (staged_tasks f (settled m h) ++ folder_tasks f (settled m h)) = runs_same (settled m h) m _ (sym (settled_keys m h o)) (sym (settled_staged m h o)) (sym (settled_last m h o)) there in
     subst (Runs m) (sym is) (record { keyed = here.keyed; ahead = here.ahead; waits = here.waits })
 
 pub record Orderly (m : Machine) : Type 0 where

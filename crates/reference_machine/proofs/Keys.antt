@@ -5,8 +5,8 @@ use Rattle.std.proofs.lemmas.Bool.Decides.{nat_tests}
 use Rattle.cu_base.specs.declared.time.EfiTime.{EfiTime}
 use Rattle.reference_machine.specs.declared.unit.End.{End}
 use Rattle.reference_machine.specs.declared.unit.UnitKey.{UnitKey}
-use Rattle.reference_machine.specs.Boots.{Work, closed_with}
-use Rattle.reference_machine.specs.Boots.Work.{Settles, Unstages, Does, Prunes, Removes, Clears}
+use Rattle.reference_machine.specs.Boots.{BootTask, closed_with}
+use Rattle.reference_machine.specs.Boots.BootTask.{Settles, Unstages, Does, Prunes, Removes, Clears}
 use Rattle.reference_machine.specs.Deliveries.{BootUnit, Delivery, Piece, unit_of}
 use Rattle.reference_machine.specs.Laws.{StandInOrder, HaveDistinctKeys}
 use Rattle.reference_machine.specs.Spent.{Element, is_of, is_open, is_closed, spent}
@@ -112,7 +112,7 @@ distinct_keys list g before between rest a b is same =
     absurd (omega arith)
 
 -- the units that are left stand in order behind these keys
-abbrev pub Ahead : List UnitKey → List Work → Type 0
+abbrev pub Ahead : List UnitKey → List BootTask → Type 0
 Ahead keys [] = Unit {0}
 Ahead keys (Settles kind end ∷ rest) = Ahead keys rest
 Ahead keys (Unstages pair ∷ rest) = Ahead keys rest
@@ -151,7 +151,7 @@ unit_is_of r s n u h =
     ap (λ i. i == r && u.key.ticket.serial == s) h.route ∙ ap (λ i. r == r && i == s) h.serial ∙ ap (λ b. b && s == s) (same_number r) ∙ same_number s
 
 -- such units stand in order behind as many keys of their delivery as their first number says
-pub do_ahead : (r s n : ℕ) (us : List BootUnit) (keys : List UnitKey) (rest : List Work) → Numbered r s n us → count r s keys ≡ n → Ahead (keys ++ unit_keys us) rest → Ahead keys (map Does us ++ rest)
+pub do_ahead : (r s n : ℕ) (us : List BootUnit) (keys : List UnitKey) (rest : List BootTask) → Numbered r s n us → count r s keys ≡ n → Ahead (keys ++ unit_keys us) rest → Ahead keys (map Does us ++ rest)
 do_ahead r s n [] keys rest h e a = subst (λ ks. Ahead ks rest) (append-nil keys) a
 do_ahead r s n (u ∷ us) keys rest h e a =
     let here : count r s keys ≡ count u.key.ticket.route u.key.ticket.serial keys = ap (λ i. count i s keys) (sym h.0.route) ∙ ap (λ i. count u.key.ticket.route i keys) (sym h.0.serial) in

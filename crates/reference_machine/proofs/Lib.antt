@@ -5,6 +5,7 @@ pub mod Filing
 pub mod FilingWork
 pub mod Floors
 pub mod Going
+pub mod Growing
 pub mod Keeping
 pub mod KeptLemmas
 pub mod Keyed
@@ -13,6 +14,7 @@ pub mod Lists
 pub mod Once
 pub mod Ordered
 pub mod Reached
+pub mod Reading
 pub mod Short
 pub mod SpentFiles
 pub mod Tests

@@ -4,7 +4,8 @@ use Rattle.cu_base.specs.declared.time.EfiTime.{EfiTime}
 use Rattle.reference_machine.specs.declared.unit.End.{End}
 use Rattle.bench_model.specs.Boards.{BoardValue}
 use Rattle.reference_machine.specs.Boots.{closed_with}
-use Rattle.reference_machine.specs.Laws.{IsHeldEnd, OpenIsLast, AttemptsReachFloor}
+use Rattle.reference_machine.specs.Laws.{OpenIsLast, AttemptsReachFloor}
+use Rattle.reference_machine.specs.Stops.{IsHeldEnd}
 use Rattle.reference_machine.specs.Spent.{Element, Standing, is_open, is_attempt, floor_of}
 use Rattle.reference_machine.specs.Spent.Standing.{Open, Closed}
 

@@ -1,21 +1,22 @@
 -- The laws of every machine that is reached.
-use Rattle.std.proofs.Common.{◌≡◌, ◌<◌, ◌≤◌, ◌^◌, ℕ, inl, inr, List, length, arith, refl, sym, ap, ◌∙◌, subst}
+use Rattle.std.proofs.Common.{◌≡◌, ◌<◌, ◌≤◌, ◌^◌, ℕ, inl, inr, List, length, arith, refl, sym, subst}
 use Rattle.bench_model.specs.Boards.{BoardValue, IsBoard}
 use Rattle.reference_machine.specs.Boots.{boot_at}
 use Rattle.reference_machine.specs.Formats.{Formats}
-use Rattle.reference_machine.specs.Laws.{IsReached, OpenIsLast, AttemptsReachFloor, AreApart, StandInOrder, HaveDistinctKeys, SpentFilesAreKept, IsWithinLimits, SerialsAreGiven, KeepsLimits, TellNoFault}
-use Rattle.reference_machine.specs.Events.{Act, Run, trace_of, machine_after}
-use Rattle.reference_machine.specs.Told.{Said}
+use Rattle.reference_machine.specs.Laws.{IsReached, Grows, OpenIsLast, AttemptsReachFloor, AreApart, StandInOrder, HaveDistinctKeys, SpentFilesHaveProgress, IsWithinLimits, SerialsAreGiven, KeepsLimits, TellNoFault}
+use Rattle.reference_machine.specs.Events.{Act, Run, Step, trace_of, machine_after}
+use Rattle.reference_machine.specs.TraceValues.{EntryValue}
 use Rattle.reference_machine.specs.Machine.{Machine, fresh}
-use Rattle.reference_machine.proofs.Apart.{apart_keeps, boot_apart}
-use Rattle.reference_machine.proofs.Bounds.{Limited, limited_keeps, boot_limited, within_limits, serials_given}
+use Rattle.reference_machine.proofs.Apart.{apart_keeps}
+use Rattle.reference_machine.proofs.Bounds.{Limited, limited_keeps, within_limits, serials_given}
 use Rattle.reference_machine.proofs.Once.{Quiet, run_once, run_is}
 use Rattle.reference_machine.proofs.Going.{Sound, sound_of, boot_going}
-use Rattle.reference_machine.proofs.Keeping.{Keeps, run_keeps}
-use Rattle.reference_machine.proofs.Keyed.{Orderly, orderly_keeps, boot_orderly}
+use Rattle.reference_machine.proofs.Keeping.{Keeps, reached_keeps}
+use Rattle.reference_machine.proofs.Growing.{event_grows, boot_grows}
+use Rattle.reference_machine.proofs.Keyed.{Orderly, orderly_keeps}
 use Rattle.reference_machine.proofs.Keys.{in_order, distinct_keys}
 use Rattle.reference_machine.proofs.Lists.{rests_last, pends_last, reach_floor}
-use Rattle.reference_machine.proofs.Short.{board_keeps, boot_board, boot_short}
+use Rattle.reference_machine.proofs.Short.{board_keeps, boot_short}
 use Rattle.reference_machine.specs.declared.unit.End.{End}
 
 sound_keeps : (f : Formats) → Keeps f Sound
@@ -32,10 +33,7 @@ sound_keeps f = record {
 }
 
 pub reached_sound : (f : Formats) (board : BoardValue) (m : Machine) → IsReached f board m → Sound m
-reached_sound f board m r =
-    let start : Sound (fresh board) = inl (record { none = tt; above = tt }) in
-    let between : Sound r.between = run_keeps f Sound (sound_keeps f) (fresh board) r.acts r.told r.between start r.run in
-    subst Sound (sym r.reached) (sound_of (boot_at f r.between r.end r.steps).machine (boot_at f r.between r.end r.steps).left (boot_going f r.between r.end r.steps r.held between))
+reached_sound f board m r = reached_keeps f Sound (sound_keeps f) board m (inl (record { none = tt; above = tt })) r
 
 last_of : (m : Machine) → Sound m → OpenIsLast m.list
 last_of m (inl r) = rests_last m.board m.list r
@@ -52,16 +50,13 @@ pub attempts : (f : Formats) (board : BoardValue) (m : Machine) → IsReached f 
 attempts f board m r = floor_of_attempts m (reached_sound f board m r)
 
 pub apart : (f : Formats) (board : BoardValue) (m : Machine) → IsReached f board m → AreApart m
-apart f board m r =
-    let start : AreApart (fresh board) = record { names = tt; files = tt; last_file = tt; staged = tt; last_staged = tt } in
-    let between : AreApart r.between = run_keeps f AreApart (apart_keeps f) (fresh board) r.acts r.told r.between start r.run in
-    subst AreApart (sym r.reached) (boot_apart f r.between r.end r.steps between)
+apart f board m r = reached_keeps f AreApart (apart_keeps f) board m (record { names = tt; files = tt; last_file = tt; staged = tt; last_staged = tt }) r
 
 -- a fresh board is quiet
 pub fresh_quiet : (board : BoardValue) → Quiet (fresh board)
 fresh_quiet board = record { rests = record { none = tt; above = tt }; well = refl }
 
-pub one : (f : Formats) (board : BoardValue) (acts : List Act) (told : List Said) (m : Machine) → Run f (fresh board) acts told m → TellNoFault told → (told ≡ trace_of f (fresh board) acts) × (m ≡ machine_after f (fresh board) acts)
+pub one : (f : Formats) (board : BoardValue) (acts : List Act) (told : List EntryValue) (m : Machine) → Run f (fresh board) acts told m → TellNoFault told → (told ≡ trace_of f (fresh board) acts) × (m ≡ machine_after f (fresh board) acts)
 one f board acts told m r h = run_once f (fresh board) acts told m (fresh_quiet board) r h
 
 pub some : (f : Formats) (board : BoardValue) (acts : List Act) → Run f (fresh board) acts (trace_of f (fresh board) acts) (machine_after f (fresh board) acts)
@@ -75,8 +70,7 @@ orderly f board m r =
       apart = record { names = tt; files = tt; last_file = tt; staged = tt; last_staged = tt };
       keyed = record { gapless = tt; waiting = tt; below = tt };
     } in
-    let between : Orderly r.between = run_keeps f Orderly (orderly_keeps f) (fresh board) r.acts r.told r.between start r.run in
-    subst Orderly (sym r.reached) (boot_orderly f r.between r.end r.steps r.held between)
+    reached_keeps f Orderly (orderly_keeps f) board m start r
 
 pub stand_in_order : (f : Formats) (board : BoardValue) (m : Machine) → IsReached f board m → StandInOrder m.list
 stand_in_order f board m r = in_order m.list (orderly f board m r).keyed.gapless
@@ -96,12 +90,11 @@ limited f board m r =
       };
       files = omega arith;
       staged = omega arith;
-      kept = record { once = tt; few = omega arith; below = tt; ready = tt };
+      in_progress = record { once = tt; few = omega arith; below = tt; ready = tt };
     } in
-    let between : Limited r.between = run_keeps f Limited (limited_keeps f) (fresh board) r.acts r.told r.between start r.run in
-    subst Limited (sym r.reached) (boot_limited f r.between r.end r.steps r.held between)
+    reached_keeps f Limited (limited_keeps f) board m start r
 
-pub spends : (f : Formats) (board : BoardValue) (m : Machine) → IsReached f board m → SpentFilesAreKept m
+pub spends : (f : Formats) (board : BoardValue) (m : Machine) → IsReached f board m → SpentFilesHaveProgress m
 spends f board m r = (limited f board m r).filed.spends
 
 pub within : (f : Formats) (board : BoardValue) (m : Machine) → IsReached f board m → IsWithinLimits m
@@ -112,10 +105,16 @@ given f board m r = serials_given m (limited f board m r) (orderly f board m r).
 
 -- a boot of a reached machine is short
 same_board : (f : Formats) (board : BoardValue) (m : Machine) → IsReached f board m → m.board ≡ board
-same_board f board m r =
-    let between : r.between.board ≡ board = run_keeps f (λ (x : Machine). x.board ≡ board) (board_keeps f board) (fresh board) r.acts r.told r.between refl r.run in
-    ap (λ (x : Machine). x.board) r.reached ∙ (boot_board f r.between r.end r.steps ∙ between)
+same_board f board m r = reached_keeps f (λ (x : Machine). x.board ≡ board) (board_keeps f board) board m refl r
 
 pub short : (f : Formats) (board : BoardValue) (m : Machine) → KeepsLimits f → IsBoard board → IsReached f board m → (h : End) (j : ℕ) → (boot_at f m h j).report.steps < 2 ^ 20
 short f board m limits is r h j =
-    boot_short f limits m h j (subst (λ (b : BoardValue). length b.devices ≤ 8) (sym (same_board f board m r)) is.devices) (within f board m r)
+    let few : length board.devices ≤ 16 = omega (arith, is.devices) in
+    boot_short f limits m h j (subst (λ (b : BoardValue). length b.devices ≤ 16) (sym (same_board f board m r)) few) (within f board m r)
+
+-- the list grows by each event, and by the steps of a boot
+pub events_grow : (f : Formats) (board : BoardValue) (m : Machine) → IsReached f board m → (act : Act) (entry : EntryValue) (new : Machine) → Step f m act entry new → Grows m.list new.list
+events_grow f board m r act entry new s = event_grows f m act entry new (reached_sound f board m r) s
+
+pub boots_grow : (f : Formats) (board : BoardValue) (m : Machine) → IsReached f board m → (h : End) (j : ℕ) → Grows m.list (boot_at f m h j).machine.list
+boots_grow f board m r h j = boot_grows f m h j (reached_sound f board m r)

@@ -1,7 +1,7 @@
 -- A boot of the reference machine, step by step. One function gives the next step from the machine and from what is left
 -- of the boot; a boot is its iteration, so that each step and the machine after it have a number.
 use Rattle.std.specs.Prelude.{ℕ, zero, suc, Bool, false, ◌+◌, ◌*◌, ◌==◌, not, nat_lt, List, [], ◌∷◌, ◌++◌, length, map, filter, flat_map, count_by, find, drop, Option, None, Some, option_map, unwrap_or, if◌then◌else◌}
-use Rattle.std.specs.List.{list_any, range_with_len}
+use Rattle.std.specs.List.{list_any}
 use Rattle.cu_base.specs.declared.time.EfiTime.{EfiTime}
 use Rattle.reference_machine.specs.declared.snapshot.StagedPair.{StagedPair}
 use Rattle.reference_machine.specs.declared.unit.End.{End}
@@ -15,35 +15,35 @@ use Rattle.reference_machine.specs.Deliveries.{Delivery, BootUnit, units}
 use Rattle.reference_machine.specs.Machine.{File, Machine}
 use Rattle.reference_machine.specs.Names.{is_taken_before}
 use Rattle.reference_machine.specs.Order.{in_order}
-use Rattle.reference_machine.specs.Report.{Reported}
+use Rattle.reference_machine.specs.Report.{ReportValue}
 use Rattle.reference_machine.specs.Results.{line_of}
 use Rattle.reference_machine.specs.Spent.{Standing, Element, is_open, is_closed, spent}
 use Rattle.reference_machine.specs.Spent.Standing.{Open, Closed}
 use Rattle.reference_machine.specs.Verdicts.{refusal}
 
 -- a piece of the work of a boot
-pub data Work : Type 0 where
-  Settles : (kind : Kind) → (end : End) → Work  -- the open element is closed with this end
-  Unstages : (pair : StagedPair) → Work  -- a staged delivery is taken out
-  Does : (unit : BootUnit) → Work  -- a unit is closed, or claimed and then settled
-  Prunes : Work  -- the progress of files that are gone is dropped
-  Removes : (serial : ℕ) → Work  -- a file is taken out of the folder
-  Clears : Work  -- the platform has taken the files that it was asked for
+pub data BootTask : Type 0 where
+  Settles : (kind : Kind) → (end : End) → BootTask  -- the open element is closed with this end
+  Unstages : (pair : StagedPair) → BootTask  -- a staged delivery is taken out
+  Does : (unit : BootUnit) → BootTask  -- a unit is closed, or claimed and then settled
+  Prunes : BootTask  -- the progress of files that are gone is dropped
+  Removes : (serial : ℕ) → BootTask  -- a file is taken out of the folder
+  Clears : BootTask  -- the platform has taken the files that it was asked for
 
 -- a boot under way: the machine, the work that is left, and the report so far
-pub record Progress : Type 0 where
+pub record BootState : Type 0 where
   pub machine : Machine
-  pub left : List Work
-  pub report : Reported
+  pub left : List BootTask
+  pub report : ReportValue
 
 -- the serials of kept progress, with that of a unit of a file
-abbrev pub kept_with : List ℕ → UnitKey → List ℕ
-kept_with kept key =
+abbrev pub progress_with : List ℕ → UnitKey → List ℕ
+progress_with in_progress key =
     if key.ticket.route == 1
-    then if list_any (λ s. s == key.ticket.serial) kept then kept else kept ++ key.ticket.serial ∷ []
-    else kept
+    then if list_any (λ s. s == key.ticket.serial) in_progress then in_progress else in_progress ++ key.ticket.serial ∷ []
+    else in_progress
 
--- an element of a unit, with version, floor and payload of its image's parts, and 0, 0 and nothing where it has none
+-- an element of a unit, with what stands in its image's parts, and zeros and nothing where it has none
 abbrev pub element_with : BootUnit → Standing → Option Parts → Element
 element_with u standing parts = record {
   kind = u.kind;
@@ -52,6 +52,7 @@ element_with u standing parts = record {
   head = u.head;
   version = unwrap_or (option_map (λ p. p.version) parts) 0;
   floor = unwrap_or (option_map (λ p. p.lowest) parts) 0;
+  dependency = unwrap_or (option_map (λ p. p.dependency) parts) [];
   payload = unwrap_or (option_map (λ p. p.payload) parts) [];
   standing = standing;
 }
@@ -70,7 +71,7 @@ element_of f u standing = element_with u standing (parts_tried f u u.kind)
 
 -- the machine with one more spent unit
 abbrev pub with_element : Machine → Element → Machine
-with_element m e = record m { list = m.list ++ e ∷ []; kept = kept_with m.kept e.key; batches = m.batches + 1 }
+with_element m e = record m { list = m.list ++ e ∷ []; in_progress = progress_with m.in_progress e.key; batches = m.batches + 1 }
 
 -- the machine with one more claim: of this no progress is stored
 abbrev pub with_claim : Machine → Element → Machine
@@ -83,7 +84,7 @@ closed_with end now e = if is_open e then record e { standing = Closed (Some end
 -- the machine with this open element closed, where there is one
 abbrev pub settled_with : Machine → End → Option Element → Machine
 settled_with m end None = m
-settled_with m end (Some e) = record m { list = map (closed_with end m.now) m.list; kept = kept_with m.kept e.key; batches = m.batches + 1 }
+settled_with m end (Some e) = record m { list = map (closed_with end m.now) m.list; in_progress = progress_with m.in_progress e.key; batches = m.batches + 1 }
 
 -- the machine with its open element closed
 abbrev pub settled : Machine → End → Machine
@@ -107,12 +108,12 @@ course_of f m u Skip = Close None
 course_of f m u NoTarget = Close None
 course_of f m u Bad = Close None
 
--- the report after one step, and after one that closes a unit
-abbrev pub one_step : Reported → Reported
+-- the report after one more step
+abbrev pub one_step : ReportValue → ReportValue
 one_step r = record r { steps = r.steps + 1 }
 
 -- the report after a step that adds lines
-abbrev pub with_lines : Reported → List UnitLine → Reported
+abbrev pub with_lines : ReportValue → List UnitLine → ReportValue
 with_lines r lines = record r { steps = r.steps + 1; lines = r.lines ++ lines }
 
 -- the line of the next element to be closed
@@ -120,7 +121,7 @@ abbrev pub next_line : Machine → Kind → Element → UnitLine
 next_line m kind e = line_of m.board kind (count_by is_closed m.list) e
 
 -- the boot after the step of a unit
-abbrev pub after_unit : Formats → Progress → BootUnit → List Work → Course → Progress
+abbrev pub after_unit : Formats → BootState → BootUnit → List BootTask → Course → BootState
 after_unit f b u rest Claim = record {
   machine = with_claim b.machine (element_of f u Open);
   left = Settles Try Sealed ∷ rest;
@@ -140,7 +141,7 @@ abbrev pub is_file : List File → ℕ → Bool
 is_file files serial = list_any (λ x. x.serial == serial) files
 
 -- the next step of a boot and the machine after it; a boot that has nothing left stays as it is
-abbrev pub after : Formats → Progress → List Work → Progress
+abbrev pub after : Formats → BootState → List BootTask → BootState
 after f b [] = b
 after f b (Settles kind end ∷ rest) = record {
   machine = settled b.machine end;
@@ -154,7 +155,7 @@ after f b (Unstages p ∷ rest) = record {
 }
 after f b (Does u ∷ rest) = after_unit f b u rest (course_of f b.machine u u.kind)
 after f b (Prunes ∷ rest) = record {
-  machine = record b.machine { kept = filter (is_file b.machine.files) b.machine.kept; batches = b.machine.batches + 1 };
+  machine = record b.machine { in_progress = filter (is_file b.machine.files) b.machine.in_progress; batches = b.machine.batches + 1 };
   left = rest;
   report = one_step b.report;
 }
@@ -164,17 +165,17 @@ after f b (Removes serial ∷ rest) = record {
   report = record b.report { steps = b.report.steps + 1; removed = b.report.removed ++ serial ∷ [] };
 }
 after f b (Clears ∷ rest) = record {
-  machine = record b.machine { bit = false; kept = []; batches = b.machine.batches + 1 };
+  machine = record b.machine { is_signalled = false; in_progress = []; batches = b.machine.batches + 1 };
   left = rest;
   report = one_step b.report;
 }
 
 -- the boot after its next step
-abbrev pub next : Formats → Progress → Progress
+abbrev pub next : Formats → BootState → BootState
 next f b = after f b b.left
 
 -- the boot after so many steps
-abbrev pub after_steps : Formats → ℕ → Progress → Progress
+abbrev pub after_steps : Formats → ℕ → BootState → BootState
 after_steps f zero b = b
 after_steps f (suc n) b = next f (after_steps f n b)
 
@@ -186,7 +187,7 @@ memory_delivery f m p = record { route = 0; serial = p.serial; name = []; bytes 
 abbrev pub file_delivery : File → Delivery
 file_delivery x = record { route = 1; serial = x.serial; name = x.name; bytes = Some x.bytes }
 
--- the staged deliveries by rising serial, and the files by their upper-cased names
+-- the staged deliveries by rising serial
 abbrev pub staged_in_order : Machine → List StagedPair
 staged_in_order m = in_order (λ a b. nat_lt a.serial b.serial) m.staged
 
@@ -195,53 +196,49 @@ abbrev pub files_in_order : Machine → List File
 files_in_order m = in_order (λ a b. is_taken_before a.name b.name) m.files
 
 -- the work on a staged delivery: it is taken out, and then its units are done
-abbrev pub pair_work : Formats → Machine → StagedPair → List Work
-pair_work f m p = Unstages p ∷ map Does (units f (memory_delivery f m p) m.board)
+abbrev pub pair_tasks : Formats → Machine → StagedPair → List BootTask
+pair_tasks f m p = Unstages p ∷ map Does (units f (memory_delivery f m p) m.board)
 
 -- the work on all staged deliveries
-abbrev pub staged_work : Formats → Machine → List Work
-staged_work f m = flat_map (pair_work f m) (staged_in_order m)
+abbrev pub staged_tasks : Formats → Machine → List BootTask
+staged_tasks f m = flat_map (pair_tasks f m) (staged_in_order m)
 
 -- the work on a file: its units that are not spent yet are done, and then it is removed
-abbrev pub file_work : Formats → Machine → File → List Work
-file_work f m x = map Does (drop (spent m.list x.serial) (units f (file_delivery x) m.board)) ++ Removes x.serial ∷ []
+abbrev pub file_tasks : Formats → Machine → File → List BootTask
+file_tasks f m x = map Does (drop (spent m.list x.serial) (units f (file_delivery x) m.board)) ++ Removes x.serial ∷ []
 
 -- progress is dropped where it is of a file that is gone
-abbrev pub prune_work : Machine → List Work
-prune_work m = if list_any (λ s. not (is_file m.files s)) m.kept then Prunes ∷ [] else []
+abbrev pub prune_tasks : Machine → List BootTask
+prune_tasks m = if list_any (λ s. not (is_file m.files s)) m.in_progress then Prunes ∷ [] else []
 
 -- the work on the folder, where the platform was asked for it
-abbrev pub folder_work : Formats → Machine → List Work
-folder_work f m =
-    if m.bit
-    then prune_work m ++ flat_map (file_work f m) (files_in_order m) ++ Clears ∷ []
+abbrev pub folder_tasks : Formats → Machine → List BootTask
+folder_tasks f m =
+    if m.is_signalled
+    then prune_tasks m ++ flat_map (file_tasks f m) (files_in_order m) ++ Clears ∷ []
     else []
 
 -- the work of a boot that finds this element open, or none
-abbrev pub work_with : Formats → Machine → End → Option Element → List Work
-work_with f m h None = staged_work f m ++ folder_work f m
-work_with f m h (Some e) = Settles Heal h ∷ staged_work f (settled m h) ++ folder_work f (settled m h)
+abbrev pub tasks_with : Formats → Machine → End → Option Element → List BootTask
+tasks_with f m h None = staged_tasks f m ++ folder_tasks f m
+tasks_with f m h (Some e) = Settles Heal h ∷ staged_tasks f (settled m h) ++ folder_tasks f (settled m h)
 
 -- the work of a boot. An element that an earlier boot left open is settled first, by what the device holds (h).
-abbrev pub boot_work : Formats → Machine → End → List Work
-boot_work f m h = work_with f m h (find is_open m.list)
+abbrev pub boot_tasks : Formats → Machine → End → List BootTask
+boot_tasks f m h = tasks_with f m h (find is_open m.list)
 
 -- a boot before its first step
-abbrev pub boot_start : Formats → Machine → End → Progress
+abbrev pub boot_start : Formats → Machine → End → BootState
 boot_start f m h = record {
   machine = m;
-  left = boot_work f m h;
+  left = boot_tasks f m h;
   report = record { opened = Some m.batches; steps = 0; lines = []; unstaged = []; removed = []; pending = None };
 }
 
 -- the boot after j steps
-abbrev pub boot_at : Formats → Machine → End → ℕ → Progress
+abbrev pub boot_at : Formats → Machine → End → ℕ → BootState
 boot_at f m h j = after_steps f j (boot_start f m h)
 
 -- the whole boot: no piece of work takes more than two steps
-abbrev pub boot_of : Formats → Machine → End → Progress
-boot_of f m h = boot_at f m h (2 * length (boot_work f m h))
-
--- the machines at which a boot may be stopped: those after its first j steps, for each j
-abbrev pub stops : Formats → Machine → End → List Machine
-stops f m h = map (λ j. (boot_at f m h j).machine) (range_with_len 0 ((boot_of f m h).report.steps + 1))
+abbrev pub boot_of : Formats → Machine → End → BootState
+boot_of f m h = boot_at f m h (2 * length (boot_tasks f m h))

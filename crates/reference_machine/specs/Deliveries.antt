@@ -7,6 +7,7 @@ use Rattle.reference_machine.specs.declared.unit.Kind.TheVariants.{Try, Skip, No
 use Rattle.reference_machine.specs.declared.unit.UnitKey.{UnitKey}
 use Rattle.bench_model.specs.Boards.{BoardValue}
 use Rattle.bench_model.specs.Devices.{DeviceValue}
+use Rattle.reference_machine.specs.declared.limits.TheConstants.{MAX_CAPSULE_ITEMS}
 use Rattle.reference_machine.specs.Formats.{ItemHead, Item, Capsule, Formats}
 
 -- a list of bytes with its route (0 is memory, 1 is disk), its serial and its file's name, which is empty for memory.
@@ -41,9 +42,11 @@ is_same_guid a b = bytes_eq a.bytes b.bytes
 abbrev pub no_head : ItemHead
 no_head = record { version = 0; type_id = no_guid; index = 0; instance = 0; support = 0 }
 
--- a capsule that the platform passes over: of another GUID, with drivers, without items, or with more than 16 items
+-- a capsule that the platform passes over: of another GUID, with drivers, without items, or with too many
 abbrev pub is_passed_over : Capsule → Bool
-is_passed_over c = not (is_same_guid c.guid fmp_guid) || not (c.drivers == 0) || length c.items == 0 || nat_lt 16 (length c.items)
+is_passed_over c =
+    not (is_same_guid c.guid fmp_guid) || not (c.drivers == 0) || length c.items == 0
+    || nat_lt MAX_CAPSULE_ITEMS (length c.items)
 
 -- whether a device is a target: the same type and index and, unless the item's instance is 0 or its header has
 -- version 1, the same instance

@@ -1,7 +1,7 @@
 -- The events of a play: what each may tell, and which machine it leaves. One outcome is that of a platform on which nothing
 -- fails; the others are those after a fault, and those that only the outside decides.
 use Rattle.std.specs.Prelude.{ℕ, Bool, true, false, ◌+◌, ◌-◌, ◌/◌, ◌%◌, ◌^◌, ◌==◌, ◌&&◌, ◌||◌, not, nat_lt, nat_le, ◌≡◌, ◌⊎◌, List, [], ◌∷◌, ◌++◌, length, map, filter, flat_map, sum_by, Option, None, Some, Result, Ok, Err, if◌then◌else◌}
-use Rattle.std.specs.List.{list_any, list_all, range_with_len}
+use Rattle.std.specs.List.{list_any}
 use Rattle.cu_base.specs.declared.time.EfiTime.{EfiTime}
 use Rattle.fmp_headers.specs.declared.capsule.CapsuleHeader.{CapsuleHeader}
 use Rattle.fmp_headers.specs.declared.faults.HeaderFault.{HeaderFault}
@@ -13,16 +13,16 @@ use Rattle.reference_machine.specs.declared.trace.BootEnd.{BootEnd}
 use Rattle.reference_machine.specs.declared.trace.BootEnd.TheVariants as ends
 use Rattle.reference_machine.specs.declared.unit.End.{End}
 use Rattle.reference_machine.specs.declared.unit.End.TheVariants.{Sealed, Kept, Lost}
-use Rattle.reference_machine.specs.Boots.{Work, Progress, boot_at, boot_of, next, files_in_order, staged_in_order}
-use Rattle.reference_machine.specs.Boots.Work.{Settles, Unstages, Does, Prunes, Removes, Clears}
+use Rattle.reference_machine.specs.Boots.{BootState, boot_of, files_in_order, staged_in_order}
 use Rattle.reference_machine.specs.Formats.{Formats}
 use Rattle.reference_machine.specs.Machine.{Machine}
 use Rattle.reference_machine.specs.Names.{is_same_name}
-use Rattle.reference_machine.specs.Report.{Reported, nothing_done}
+use Rattle.reference_machine.specs.Report.{ReportValue, nothing_done}
 use Rattle.reference_machine.specs.Results.{esrt_of, results_of, last_result}
-use Rattle.reference_machine.specs.Spent.{is_open}
-use Rattle.reference_machine.specs.Told.{Told, Said, Picture}
-use Rattle.reference_machine.specs.Told.Told.{Done, Serial, FlashFault, VolumeFault, Full, Wraps, Invalid, Unsupported, Resources, Booted, Shown}
+use Rattle.reference_machine.specs.Stops.{StopCause, IsHeldEnd, Agrees, stops}
+use Rattle.reference_machine.specs.Stops.StopCause.{Flash, Volume, Memory}
+use Rattle.reference_machine.specs.TraceValues.{AnswerValue, EntryValue, SnapshotValue}
+use Rattle.reference_machine.specs.TraceValues.AnswerValue.{Done, Serial, FlashFault, VolumeFault, Full, Wraps, Invalid, Unsupported, Resources, Booted, Shown}
 
 -- an event with the bytes of its input
 pub data Act : Type 0 where
@@ -53,18 +53,18 @@ act_of bytes_of events.Show = Show
 
 -- what an event may tell, with the machine that it then leaves
 abbrev pub Outcome : Type 0
-Outcome = Said × Machine
+Outcome = EntryValue × Machine
 
--- an answer of an event that does not open the store, and one of an event that does
-abbrev pub plain : Told → Said
+-- an answer of an event that did not open the store
+abbrev pub plain : AnswerValue → EntryValue
 plain answer = record { opened = None; pending = None; answer = answer }
 
 -- an answer of an event that opened the store
-abbrev pub opened : Machine → Told → Said
+abbrev pub opened : Machine → AnswerValue → EntryValue
 opened m answer = record { opened = Some m.batches; pending = None; answer = answer }
 
 -- an answer after which the batch in hand is stored or is not
-abbrev pub in_doubt : Machine → Told → Said
+abbrev pub in_doubt : Machine → AnswerValue → EntryValue
 in_doubt m answer = record { opened = Some m.batches; pending = Some (m.batches + 1); answer = answer }
 
 -- the machine after a fault
@@ -104,7 +104,7 @@ has_bit flags n = flags / 2 ^ n % 2 == 1
 
 -- why UpdateCapsule refuses a capsule of these flags: tables and resets need a capsule that lasts (UEFI 2.10, 8.5.3), and
 -- only a capsule that lasts, and that is no table, is taken
-abbrev pub flags_refusal : ℕ → Option Told
+abbrev pub flags_refusal : ℕ → Option AnswerValue
 flags_refusal flags =
     if has_bit flags 17 && not (has_bit flags 16) then Some Invalid
     else if has_bit flags 18 && not (has_bit flags 16) then Some Invalid
@@ -113,22 +113,22 @@ flags_refusal flags =
     else None
 
 -- the refusal of a capsule header
-abbrev pub header_refusal : Result CapsuleHeader HeaderFault → Option Told
+abbrev pub header_refusal : Result CapsuleHeader HeaderFault → Option AnswerValue
 header_refusal (Err fault) = Some Invalid
 header_refusal (Ok header) = flags_refusal header.flags
 
 -- the refusal of what a scatter list holds
-abbrev pub coalesced_refusal : Option (List ℕ) → Option Told
+abbrev pub coalesced_refusal : Option (List ℕ) → Option AnswerValue
 coalesced_refusal None = Some Invalid
 coalesced_refusal (Some bytes) = header_refusal (capsule_header bytes)
 
 -- no more deliveries are taken by memory where eight wait, or where no serial is left
-abbrev pub staging_refusal : Machine → Option Told → Option Told
+abbrev pub staging_refusal : Machine → Option AnswerValue → Option AnswerValue
 staging_refusal m (Some answer) = Some answer
 staging_refusal m None = if nat_le MAX_STAGED (length m.staged) || nat_le (2 ^ 64 - 1) m.last_staged then Some Resources else None
 
 -- why UpdateCapsule refuses the scatter list at an address
-abbrev pub stage_refusal : Formats → Machine → ℕ → Option Told
+abbrev pub stage_refusal : Formats → Machine → ℕ → Option AnswerValue
 stage_refusal f m address = staging_refusal m (coalesced_refusal (f.coalesced m.memory address))
 
 -- the machine with a delivery staged, in one batch
@@ -141,9 +141,9 @@ with_staged m address = record m {
 
 -- the machine in which the capsule files were asked for, in one batch
 abbrev pub signalled : Machine → Machine
-signalled m = record m { bit = true; batches = m.batches + 1 }
+signalled m = record m { is_signalled = true; batches = m.batches + 1 }
 
--- the machine after a reset that loses the memory, and after one that does not
+-- the machine after a reset that loses the memory
 abbrev pub cold : Machine → Machine
 cold m = record m { memory = []; failed = false }
 
@@ -152,8 +152,8 @@ abbrev pub warm : Machine → Machine
 warm m = record m { failed = false }
 
 -- what the platform shows
-abbrev pub picture : Machine → Picture
-picture m = record {
+abbrev pub snapshot_of : Machine → SnapshotValue
+snapshot_of m = record {
   esrt = esrt_of m.board m.list;
   results = results_of m.board m.list;
   last = last_result m.board m.list;
@@ -162,15 +162,15 @@ picture m = record {
 }
 
 -- the entry of a boot
-abbrev pub booted : Reported → BootEnd → Said
+abbrev pub booted : ReportValue → BootEnd → EntryValue
 booted r end = record { opened = r.opened; pending = r.pending; answer = Booted r end }
 
 -- the outcome of a finished boot
-abbrev pub boot_done : Progress → Outcome
+abbrev pub boot_done : BootState → Outcome
 boot_done b = (booted b.report ends.Ok, b.machine)
 
 -- the outcome of UpdateCapsule
-abbrev pub stage_done : Machine → ℕ → Option Told → Outcome
+abbrev pub stage_done : Machine → ℕ → Option AnswerValue → Outcome
 stage_done m address (Some answer) = (opened m answer, m)
 stage_done m address None = (opened m (Serial (m.last_staged + 1)), with_staged m address)
 
@@ -190,77 +190,18 @@ outcome f m Arm = (plain Done, m)
 outcome f m Fail = (plain Done, m)
 outcome f m (Reset true) = (plain Done, cold m)
 outcome f m (Reset false) = (plain Done, warm m)
-outcome f m Show = (opened m (Shown (picture m)), m)
-
--- whether a piece of work belongs to the folder, once nothing of a delivery by memory is open
-abbrev pub is_folder_work : Work → Bool
-is_folder_work (Settles kind end) = true
-is_folder_work (Unstages pair) = false
-is_folder_work (Does unit) = unit.key.ticket.route == 1
-is_folder_work Prunes = true
-is_folder_work (Removes serial) = true
-is_folder_work Clears = true
-
--- a boot has come to the folder: the work that is left, and what is open, are of files
-abbrev pub is_in_folder : Progress → Bool
-is_in_folder b = list_all is_folder_work b.left && list_all (λ e. not (is_open e) || e.key.ticket.route == 1) b.machine.list
-
--- the next piece of work is a batch of the store
-abbrev pub is_batch : List Work → Bool
-is_batch [] = false
-is_batch (Removes serial ∷ rest) = false
-is_batch (Settles kind end ∷ rest) = true
-is_batch (Unstages pair ∷ rest) = true
-is_batch (Does unit ∷ rest) = true
-is_batch (Prunes ∷ rest) = true
-is_batch (Clears ∷ rest) = true
-
--- the next piece of work removes a file
-abbrev pub is_removal : List Work → Bool
-is_removal [] = false
-is_removal (Removes serial ∷ rest) = true
-is_removal (Settles kind end ∷ rest) = false
-is_removal (Unstages pair ∷ rest) = false
-is_removal (Does unit ∷ rest) = false
-is_removal (Prunes ∷ rest) = false
-is_removal (Clears ∷ rest) = false
-
--- the outcomes of a boot that a fault of the flash stopped after some steps. Where a batch was in hand, its number is told,
--- and it is stored or is not.
-abbrev pub flash_stops : Formats → Progress → List Outcome
-flash_stops f b =
-    (booted b.report ends.Flash, failed b.machine)
-    ∷ (if is_batch b.left
-    then (booted in_hand ends.Flash, failed b.machine) ∷ (booted in_hand ends.Flash, failed (next f b).machine) ∷ []
-    else [])
-  where
-    in_hand : Reported
-    in_hand = record b.report { pending = Some (b.machine.batches + 1) }
-
--- the outcomes of a boot that a fault of the volume stopped after some steps. A removal in hand was done or was not.
-abbrev pub volume_stops : Formats → Bool → Progress → List Outcome
-volume_stops f asked b =
-    if asked && is_in_folder b
-    then (booted b.report ends.Volume, failed b.machine)
-    ∷ (if is_removal b.left then (booted b.report ends.Volume, failed (next f b).machine) ∷ [] else [])
-    else []
-
--- the outcomes of a boot that settles what is open by an end: it is finished, or stopped after j steps, for each j
-abbrev pub boot_outcomes : Formats → Machine → End → List Outcome
-boot_outcomes f m h =
-    boot_done (boot_of f m h)
-    ∷ flat_map (λ j. flash_stops f (boot_at f m h j) ++ volume_stops f m.bit (boot_at f m h j))
-    (range_with_len 0 ((boot_of f m h).report.steps + 1))
+outcome f m Show = (opened m (Shown (snapshot_of m)), m)
 
 -- the outcomes of UpdateCapsule after a fault: the delivery is staged or is not, where the checks allow it
-abbrev pub stage_faults : Machine → ℕ → Option Told → List Outcome
+abbrev pub stage_faults : Machine → ℕ → Option AnswerValue → List Outcome
 stage_faults m address (Some answer) =
     (plain FlashFault, failed m) ∷ (opened m FlashFault, failed m) ∷ (in_doubt m FlashFault, failed m) ∷ []
 stage_faults m address None =
     (plain FlashFault, failed m) ∷ (opened m FlashFault, failed m)
     ∷ (in_doubt m FlashFault, failed m) ∷ (in_doubt m FlashFault, failed (with_staged m address)) ∷ []
 
--- the other outcomes of an event. A reset loses the memory after a fault, since the power may be off.
+-- the other outcomes of an event but those of a stopped boot. A boot before which an element is open closes it by what the
+-- device holds. A reset loses the memory after a fault, since the power may be off.
 abbrev pub other_outcomes : Formats → Machine → Act → List Outcome
 other_outcomes f m (Time moment) = []
 other_outcomes f m (Drop file bytes) =
@@ -272,31 +213,79 @@ other_outcomes f m Signal =
 other_outcomes f m (Lay address bytes) = []
 other_outcomes f m (Stage address) = stage_faults m address (stage_refusal f m address)
 other_outcomes f m Boot =
-    (booted nothing_done ends.Flash, failed m) ∷ flat_map (boot_outcomes f m) (Sealed ∷ Kept ∷ Lost ∷ [])
+    (booted nothing_done ends.Flash, failed m)
+    ∷ boot_done (boot_of f m Kept) ∷ boot_done (boot_of f m Lost) ∷ []
 other_outcomes f m Arm = []
 other_outcomes f m Fail = []
 other_outcomes f m (Reset true) = []
 other_outcomes f m (Reset false) = if m.failed then (plain Done, cold m) ∷ [] else []
 other_outcomes f m Show = (plain FlashFault, failed m) ∷ (opened m VolumeFault, failed m) ∷ []
 
--- an outcome stands in a list
-abbrev pub IsIn : Outcome → List Outcome → Type 0
-IsIn o [] = ⊥
-IsIn o (p ∷ ps) = (o ≡ p) ⊎ IsIn o ps
+-- an item stands in a list
+abbrev pub IsIn : {X : Type 0} → X → List X → Type 0
+IsIn x [] = ⊥
+IsIn x (y ∷ ys) = (x ≡ y) ⊎ IsIn x ys
+
+-- a cause of a stopped boot is told as its end; want of memory ends the play and is not told
+abbrev pub IsToldAs : StopCause → BootEnd → Type 0
+IsToldAs Flash end = end ≡ ends.Flash
+IsToldAs Volume end = end ≡ ends.Volume
+IsToldAs Memory end = ⊥
+
+-- a fault of the outside stopped a boot: its report agrees with a machine, and this is left with the mark of a fault
+pub record IsStoppedBoot (f : Formats) (m : Machine) (entry : EntryValue) (new : Machine) : Type 0 where
+  pub heal : End  -- how an element that was open is closed
+  pub is_held : IsHeldEnd heal
+  pub report : ReportValue
+  pub cause : StopCause
+  pub end : BootEnd
+  pub machine : Machine
+  pub agrees : Agrees f m heal report cause machine
+  pub told : IsToldAs cause end
+  pub is_entry : entry ≡ booted report end
+  pub is_new : new ≡ failed machine
+
+-- an event that is a boot was stopped
+abbrev pub IsStopped : Formats → Machine → Act → EntryValue → Machine → Type 0
+IsStopped f m (Time moment) entry new = ⊥
+IsStopped f m (Drop file bytes) entry new = ⊥
+IsStopped f m Signal entry new = ⊥
+IsStopped f m (Lay address bytes) entry new = ⊥
+IsStopped f m (Stage address) entry new = ⊥
+IsStopped f m Boot entry new = IsStoppedBoot f m entry new
+IsStopped f m Arm entry new = ⊥
+IsStopped f m Fail entry new = ⊥
+IsStopped f m (Reset cold) entry new = ⊥
+IsStopped f m Show entry new = ⊥
 
 -- the event may tell this, and then leaves this machine
-abbrev pub Step : Formats → Machine → Act → Said → Machine → Type 0
-Step f m act said new = IsIn (said, new) (outcome f m act ∷ other_outcomes f m act)
+abbrev pub Step : Formats → Machine → Act → EntryValue → Machine → Type 0
+Step f m act entry new =
+    IsIn (entry, new) (outcome f m act ∷ other_outcomes f m act) ⊎ IsStopped f m act entry new
+
+-- the machines of an event that is cut off without an entry: those of a boot, and else unchanged or done
+abbrev pub cut_machines : Formats → Machine → Act → List Machine
+cut_machines f m (Time moment) = m ∷ (outcome f m (Time moment)).1 ∷ []
+cut_machines f m (Drop file bytes) = m ∷ (outcome f m (Drop file bytes)).1 ∷ []
+cut_machines f m Signal = m ∷ (outcome f m Signal).1 ∷ []
+cut_machines f m (Lay address bytes) = m ∷ (outcome f m (Lay address bytes)).1 ∷ []
+cut_machines f m (Stage address) = m ∷ (outcome f m (Stage address)).1 ∷ []
+cut_machines f m Boot = flat_map (stops f m) (Sealed ∷ Kept ∷ Lost ∷ [])
+cut_machines f m Arm = m ∷ (outcome f m Arm).1 ∷ []
+cut_machines f m Fail = m ∷ (outcome f m Fail).1 ∷ []
+cut_machines f m (Reset cold) = m ∷ (outcome f m (Reset cold)).1 ∷ []
+cut_machines f m Show = m ∷ (outcome f m Show).1 ∷ []
 
 -- the events may tell this, one for each, and then leave this machine
-abbrev pub Run : Formats → Machine → List Act → List Said → Machine → Type 0
+abbrev pub Run : Formats → Machine → List Act → List EntryValue → Machine → Type 0
 Run f m [] [] new = new ≡ m
-Run f m (act ∷ acts) (said ∷ rest) new = (between : Machine) × Step f m act said between × Run f between acts rest new
-Run f m [] (said ∷ rest) new = ⊥
+Run f m (act ∷ acts) (entry ∷ rest) new =
+    (between : Machine) × Step f m act entry between × Run f between acts rest new
+Run f m [] (entry ∷ rest) new = ⊥
 Run f m (act ∷ acts) [] new = ⊥
 
 -- the trace and the machine after all events on a platform on which nothing fails
-abbrev pub trace_of : Formats → Machine → List Act → List Said
+abbrev pub trace_of : Formats → Machine → List Act → List EntryValue
 trace_of f m [] = []
 trace_of f m (act ∷ acts) = (outcome f m act).0 ∷ trace_of f (outcome f m act).1 acts
 

@@ -22,21 +22,23 @@ pub record Capsule : Type 0 where
   pub drivers : ℕ
   pub items : List Item
 
--- the parts of an update image: version and lowest supported version of its payload header, its payload, and whether
--- the versions of the devices satisfy its dependencies
+-- the parts of an update image: version and lowest supported version of its payload header, its dependency section,
+-- empty where it has none, and its payload
 pub record Parts : Type 0 where
   pub version : ℕ
   pub lowest : ℕ
+  pub dependency : List ℕ
   pub payload : List ℕ
-  pub is_satisfied : List (Guid × ℕ) → Bool
 
 -- bytes that are laid into memory at an address
 pub record Segment : Type 0 where
   pub address : ℕ
   pub bytes : List ℕ
 
--- each is None where the bytes are refused
+-- what a boot reads of bytes: each is None where the bytes are refused. Whether versions satisfy a dependency section is
+-- asked of sections that are not empty; one that is refused is not satisfied.
 pub record Formats : Type 0 where
   pub capsules : List ℕ → Option (List Capsule)
   pub parts : List ℕ → ℕ → Option Parts
+  pub is_satisfied : List ℕ → List (Guid × ℕ) → Bool
   pub coalesced : List Segment → ℕ → Option (List ℕ)

@@ -1,39 +1,32 @@
 -- What holds of every machine that is reached from a fresh board, whatever is delivered and whatever fails.
 use Rattle.std.specs.Prelude.{◌≡◌, ◌≢◌, ◌⊎◌, ℕ, ◌<◌, ◌≤◌, Bool, false, ◌==◌, List, [], ◌∷◌, ◌++◌, IsTrue, length, filter, find, Option, None, Some}
 use Rattle.std.specs.List.{AllByRecursion, list_any}
-use Rattle.reference_machine.specs.declared.limits.TheConstants.{MAX_FILES, MAX_STAGED}
+use Rattle.cu_base.specs.declared.time.EfiTime.{EfiTime}
+use Rattle.reference_machine.specs.declared.limits.TheConstants.{MAX_FILES, MAX_STAGED, MAX_DELIVERY_CAPSULES}
 use Rattle.reference_machine.specs.declared.trace.BootEnd.{BootEnd}
 use Rattle.reference_machine.specs.declared.trace.BootEnd.TheVariants as ends
 use Rattle.reference_machine.specs.declared.unit.End.{End}
-use Rattle.reference_machine.specs.declared.unit.End.TheVariants.{Refused, Sealed, Kept, Lost}
 use Rattle.reference_machine.specs.declared.unit.UnitKey.{UnitKey}
 use Rattle.bench_model.specs.Boards.{BoardValue}
-use Rattle.reference_machine.specs.Boots.{boot_at, kept_with}
-use Rattle.reference_machine.specs.Events.{Act, Run}
+use Rattle.reference_machine.specs.Boots.{boot_at, progress_with}
+use Rattle.reference_machine.specs.Events.{Act, Step}
 use Rattle.reference_machine.specs.Formats.{Capsule, Formats}
 use Rattle.reference_machine.specs.Machine.{File, Machine, fresh}
 use Rattle.reference_machine.specs.Names.{is_same_name}
 use Rattle.reference_machine.specs.Spent.{Element, is_open, is_attempt, floor_of, is_of, spent}
-use Rattle.reference_machine.specs.Told.{Told, Said}
-use Rattle.reference_machine.specs.Told.Told.{Done, Serial, FlashFault, VolumeFault, NoBank, Full, Wraps, Invalid, Unsupported, Resources, Booted, Shown}
+use Rattle.reference_machine.specs.Spent.Standing.{Closed}
+use Rattle.reference_machine.specs.Stops.{IsHeldEnd}
+use Rattle.reference_machine.specs.TraceValues.{AnswerValue, EntryValue}
+use Rattle.reference_machine.specs.TraceValues.AnswerValue.{Done, Serial, FlashFault, VolumeFault, NoBank, Full, Wraps, Invalid, Unsupported, Resources, Booted, Shown}
 
--- an end that is told by what a device holds
-abbrev pub IsHeldEnd : End → Type 0
-IsHeldEnd (Refused status) = ⊥
-IsHeldEnd Sealed = Unit {0}
-IsHeldEnd Kept = Unit {0}
-IsHeldEnd Lost = Unit {0}
-
--- a machine that some events and then some steps of a boot lead to from a fresh board, with or without faults
-pub record IsReached (f : Formats) (board : BoardValue) (m : Machine) : Type 0 where
-  pub acts : List Act
-  pub told : List Said
-  pub between : Machine
-  pub run : Run f (fresh board) acts told between
-  pub end : End
-  pub held : IsHeldEnd end
-  pub steps : ℕ
-  pub reached : m ≡ (boot_at f between end steps).machine
+-- a machine that is reached from a fresh board: by events, and by steps of a boot that something stopped, with or without
+-- faults
+pub data IsReached (f : Formats) (board : BoardValue) : Machine → Type 0 where
+  Fresh : IsReached f board (fresh board)
+  ByEvent : (m : Machine) (act : Act) (entry : EntryValue) (new : Machine) → IsReached f board m →
+      Step f m act entry new → IsReached f board new
+  BySteps : (m : Machine) (h : End) (j : ℕ) → IsReached f board m → IsHeldEnd h →
+      IsReached f board (boot_at f m h j).machine
 
 -- an open element is the last one, so that there is at most one
 abbrev pub OpenIsLast : List Element → Type 0
@@ -44,15 +37,15 @@ abbrev pub AttemptsReachFloor : BoardValue → List Element → Type 0
 AttemptsReachFloor board list =
     (before rest : List Element) (e : Element) → list ≡ before ++ e ∷ rest → IsTrue (is_attempt e) → floor_of board before e.key.device ≤ e.version
 
--- an answer tells no fault
+-- the end of a boot tells no fault
 abbrev pub IsNoFaultEnd : BootEnd → Type 0
 IsNoFaultEnd ends.Ok = Unit {0}
 IsNoFaultEnd ends.Flash = ⊥
 IsNoFaultEnd ends.Volume = ⊥
 IsNoFaultEnd ends.NoBank = ⊥
 
--- an entry tells no fault
-abbrev pub IsNoFault : Told → Type 0
+-- an answer tells no fault
+abbrev pub IsNoFault : AnswerValue → Type 0
 IsNoFault Done = Unit {0}
 IsNoFault (Serial serial) = Unit {0}
 IsNoFault FlashFault = ⊥
@@ -64,10 +57,10 @@ IsNoFault Invalid = Unit {0}
 IsNoFault Unsupported = Unit {0}
 IsNoFault Resources = Unit {0}
 IsNoFault (Booted report end) = IsNoFaultEnd end
-IsNoFault (Shown picture) = Unit {0}
+IsNoFault (Shown snapshot) = Unit {0}
 
 -- no entry tells a fault
-abbrev pub TellNoFault : List Said → Type 0
+abbrev pub TellNoFault : List EntryValue → Type 0
 TellNoFault [] = Unit {0}
 TellNoFault (said ∷ rest) = IsNoFault said.answer × TellNoFault rest
 
@@ -98,34 +91,50 @@ StandInOrder list =
 abbrev pub HaveDistinctKeys : List Element → Type 0
 HaveDistinctKeys list = (before between rest : List Element) (a b : Element) → list ≡ before ++ a ∷ (between ++ b ∷ rest) → a.key ≢ b.key
 
--- a file of which units are spent has its serial in kept
-abbrev pub SpentFilesAreKept : Machine → Type 0
-SpentFilesAreKept m = AllByRecursion (λ x. 0 < spent m.list x.serial → IsTrue (list_any (λ s. s == x.serial) m.kept)) m.files
+-- a file of which units are spent has its progress stored
+abbrev pub SpentFilesHaveProgress : Machine → Type 0
+SpentFilesHaveProgress m = AllByRecursion (λ x. 0 < spent m.list x.serial → IsTrue (list_any (λ s. s == x.serial) m.in_progress)) m.files
 
--- the serials in kept, with that of an open element on a file
-abbrev pub kept_with_open : List ℕ → Option Element → List ℕ
-kept_with_open kept None = kept
-kept_with_open kept (Some e) = kept_with kept e.key
+-- the serials of stored progress, with that of an open element on a file
+abbrev pub progress_with_open : List ℕ → Option Element → List ℕ
+progress_with_open in_progress None = in_progress
+progress_with_open in_progress (Some e) = progress_with in_progress e.key
 
--- files and staged deliveries are within their limits, and so are the serials in kept, with that of an open element on a
+-- files and staged deliveries are within their limits, and so are the serials of stored progress, with that of an open element on a
 -- file: there are at most as many as there may be files
 pub record IsWithinLimits (m : Machine) : Type 0 where
   pub files : length m.files ≤ MAX_FILES
   pub staged : length m.staged ≤ MAX_STAGED
-  pub kept : length (kept_with_open m.kept (find is_open m.list)) ≤ MAX_FILES
+  pub in_progress : length (progress_with_open m.in_progress (find is_open m.list)) ≤ MAX_FILES
 
 -- a unit is of a delivery by memory (route 0) or by disk (route 1), with a serial up to the last one there
 abbrev pub IsGiven : Machine → UnitKey → Type 0
 IsGiven m key =
     ((key.ticket.route ≡ 0) × (key.ticket.serial ≤ m.last_staged)) ⊎ ((key.ticket.route ≡ 1) × (key.ticket.serial ≤ m.last_file))
 
--- the serials of spent units and those in kept are at most the last ones, and a delivery that is staged has no spent unit
+-- the serials of spent units and those of stored progress are at most the last ones, and a delivery that is staged has no spent unit
 pub record SerialsAreGiven (m : Machine) : Type 0 where
   pub elements : AllByRecursion (λ e. IsGiven m e.key) m.list
-  pub kept : AllByRecursion (λ s. s ≤ m.last_file) m.kept
+  pub in_progress : AllByRecursion (λ s. s ≤ m.last_file) m.in_progress
   pub staged : AllByRecursion (λ p. list_any (λ e. is_of 0 p.serial e.key) m.list ≡ false) m.staged
 
--- a delivery holds at most 8 capsules. Of items and devices nothing needs to be said: a capsule of more than 16 items is
--- passed over, and a board has at most 8 devices.
+-- a delivery holds few capsules. Of items and devices nothing needs to be said: a capsule of too many items is passed
+-- over, and a board has few devices.
 pub record KeepsLimits (f : Formats) : Type 0 where
-  pub capsules : (bytes : List ℕ) (found : List Capsule) → f.capsules bytes ≡ Some found → length found ≤ 8
+  pub capsules : (bytes : List ℕ) (found : List Capsule) → f.capsules bytes ≡ Some found →
+      length found ≤ MAX_DELIVERY_CAPSULES
+
+-- the last element of a list, which was open, is closed with an end, and more elements follow
+pub record ClosesLast (old new : List Element) : Type 0 where
+  pub front : List Element
+  pub last : Element
+  pub end : End
+  pub at : EfiTime
+  pub more : List Element
+  pub was_last : old ≡ front ++ last ∷ []
+  pub was_open : IsTrue (is_open last)
+  pub closed : new ≡ front ++ record last { standing = Closed (Some end) at } ∷ more
+
+-- one list of spent units grew to another: by more elements, of which an open last one was closed before
+abbrev pub Grows : List Element → List Element → Type 0
+Grows old new = ((more : List Element) × (new ≡ old ++ more)) ⊎ ClosesLast old new

@@ -9,5 +9,6 @@ pub mod Order
 pub mod Report
 pub mod Results
 pub mod Spent
-pub mod Told
+pub mod Stops
+pub mod TraceValues
 pub mod Verdicts

@@ -21,9 +21,9 @@ pub record Machine : Type 0 where
   pub memory : List Segment  -- what is laid into memory; a later segment hides earlier ones
   pub staged : List StagedPair  -- the deliveries that wait in memory
   pub last_staged : ℕ  -- the last serial of a delivery by memory
-  pub bit : Bool  -- whether the capsule files were asked for (bit 0x04 of OsIndications, UEFI 2.10, 8.5.4)
+  pub is_signalled : Bool  -- whether the capsule files were asked for (bit 0x04 of OsIndications, UEFI 2.10, 8.5.4)
   pub list : List Element  -- all spent units, in order
-  pub kept : List ℕ  -- the serials of the files whose progress is stored
+  pub in_progress : List ℕ  -- the serials of the files whose progress is stored
   pub batches : ℕ  -- how many batches the store took
   pub failed : Bool  -- whether an event since the last reset answered a fault
 
@@ -41,9 +41,9 @@ fresh board = record {
   memory = [];
   staged = [];
   last_staged = 0;
-  bit = false;
+  is_signalled = false;
   list = [];
-  kept = [];
+  in_progress = [];
   batches = 0;
   failed = false;
 }

@@ -4,7 +4,7 @@ use Rattle.reference_machine.specs.declared.report.Report.{Report}
 use Rattle.reference_machine.specs.declared.unit.UnitLine.{UnitLine}
 
 -- what a boot did, as far as it came
-pub record Reported : Type 0 where
+pub record ReportValue : Type 0 where
   pub opened : Option ℕ
   pub steps : ℕ
   pub lines : List UnitLine
@@ -13,8 +13,8 @@ pub record Reported : Type 0 where
   pub pending : Option ℕ
 
 -- the report as a value
-abbrev pub report_of : Report → Reported
-report_of r = record {
+abbrev pub report_value : Report → ReportValue
+report_value r = record {
   opened = r.opened;
   steps = r.steps;
   lines = r.lines.items;
@@ -24,5 +24,5 @@ report_of r = record {
 }
 
 -- no step yet
-abbrev pub nothing_done : Reported
+abbrev pub nothing_done : ReportValue
 nothing_done = record { opened = None; steps = 0; lines = []; unstaged = []; removed = []; pending = None }

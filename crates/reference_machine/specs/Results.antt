@@ -4,6 +4,7 @@ use Rattle.std.specs.Prelude.{ℕ, ◌+◌, ◌%◌, ◌^◌, ◌==◌, ◌&&◌
 use Rattle.std.specs.List.{enumerate_from, last_or, range_with_len}
 use Rattle.cu_base.specs.declared.guid.Guid.{Guid}
 use Rattle.cu_base.specs.declared.status.EfiStatus.{EfiStatus}
+use Rattle.reference_machine.specs.declared.attempt_status.TheConstants.{LAST_ATTEMPT_STATUS_SUCCESS, LAST_ATTEMPT_STATUS_ERROR_UNSUCCESSFUL, LAST_ATTEMPT_STATUS_ERROR_INSUFFICIENT_RESOURCES, LAST_ATTEMPT_STATUS_ERROR_INCORRECT_VERSION, LAST_ATTEMPT_STATUS_ERROR_INVALID_FORMAT, LAST_ATTEMPT_STATUS_ERROR_AUTH_ERROR, LAST_ATTEMPT_STATUS_ERROR_UNSATISFIED_DEPENDENCIES}
 use Rattle.reference_machine.specs.declared.snapshot.CapsuleResult.{CapsuleResult}
 use Rattle.reference_machine.specs.declared.snapshot.EsrtEntry.{EsrtEntry}
 use Rattle.reference_machine.specs.declared.snapshot.FmpResult.{FmpResult}
@@ -22,10 +23,18 @@ use Rattle.reference_machine.specs.Spent.Standing.{Open, Closed}
 abbrev pub efi_status : ℕ → EfiStatus
 efi_status n = if n == 0 then record { code = 0 } else record { code = 2 ^ 63 + n }
 
--- the EFI_STATUS that tells a LastAttemptStatus: SUCCESS, ABORTED, OUT_OF_RESOURCES, INCOMPATIBLE_VERSION, LOAD_ERROR,
--- SECURITY_VIOLATION, NOT_FOUND
+-- the number of the EFI_STATUS that tells a LastAttemptStatus, in their order here: SUCCESS, ABORTED, OUT_OF_RESOURCES,
+-- INCOMPATIBLE_VERSION, LOAD_ERROR, SECURITY_VIOLATION, NOT_FOUND
 abbrev pub efi_numbers : List (ℕ × ℕ)
-efi_numbers = (0, 0) ∷ (1, 21) ∷ (2, 9) ∷ (3, 25) ∷ (4, 1) ∷ (5, 26) ∷ (8, 14) ∷ []
+efi_numbers =
+    (LAST_ATTEMPT_STATUS_SUCCESS, 0)
+    ∷ (LAST_ATTEMPT_STATUS_ERROR_UNSUCCESSFUL, 21)
+    ∷ (LAST_ATTEMPT_STATUS_ERROR_INSUFFICIENT_RESOURCES, 9)
+    ∷ (LAST_ATTEMPT_STATUS_ERROR_INCORRECT_VERSION, 25)
+    ∷ (LAST_ATTEMPT_STATUS_ERROR_INVALID_FORMAT, 1)
+    ∷ (LAST_ATTEMPT_STATUS_ERROR_AUTH_ERROR, 26)
+    ∷ (LAST_ATTEMPT_STATUS_ERROR_UNSATISFIED_DEPENDENCIES, 14)
+    ∷ []
 
 -- the number of the EFI_STATUS of a LastAttemptStatus
 abbrev pub efi_number_of : ℕ → ℕ
@@ -33,9 +42,9 @@ efi_number_of status = unwrap_or (option_map (λ p. p.1) (find (λ p. p.0 == sta
 
 -- the LastAttemptStatus of an end (UEFI 2.10, 23.4)
 abbrev pub attempt_status : End → ℕ
-attempt_status Sealed = 0
-attempt_status Kept = 1
-attempt_status Lost = 1
+attempt_status Sealed = LAST_ATTEMPT_STATUS_SUCCESS
+attempt_status Kept = LAST_ATTEMPT_STATUS_ERROR_UNSUCCESSFUL
+attempt_status Lost = LAST_ATTEMPT_STATUS_ERROR_UNSUCCESSFUL
 attempt_status (Refused status) = status
 
 -- the number of the CapsuleStatus of a unit that tries nothing: LOAD_ERROR for refused bytes, else UNSUPPORTED

@@ -17,7 +17,7 @@ pub data Standing : Type 0 where
   Open : Standing
   Closed : (end : Option End) → (at : EfiTime) → Standing
 
--- a spent unit, with version, floor and payload of its image, which are 0, 0 and empty where there is none
+-- a spent unit, with version, floor, dependency section and payload of its image, which are 0 and empty where there is none
 pub record Element : Type 0 where
   pub kind : Kind
   pub key : UnitKey
@@ -25,6 +25,7 @@ pub record Element : Type 0 where
   pub head : ItemHead
   pub version : ℕ
   pub floor : ℕ
+  pub dependency : List ℕ
   pub payload : List ℕ
   pub standing : Standing
 
@@ -113,11 +114,12 @@ factory_floor board d = unwrap_or (option_map (λ x. x.floor) (slice_get board.d
 abbrev pub floor_of : BoardValue → List Element → ℕ → ℕ
 floor_of board list d = greatest (factory_floor board d) (sealed_floors list d)
 
--- what a device holds: who wrote it, its version, floor and payload
+-- what a device holds: who wrote it, its version, floor, dependency section and payload
 pub record Image : Type 0 where
   pub ticket : Ticket
   pub version : ℕ
   pub floor : ℕ
+  pub dependency : List ℕ
   pub payload : List ℕ
 
 -- the image that a device leaves the factory with, under the ticket of route 255
@@ -126,15 +128,22 @@ factory_image d = record {
   ticket = record { route = 255; capsule = 0; item = 0; serial = 0 };
   version = d.version;
   floor = d.floor;
+  dependency = [];
   payload = [];
 }
 
 -- what an element that ended by Sealed or Lost left on its device; Lost leaves no image
 abbrev pub image_left : Element → Option Image
-image_left e =
-    if is_sealed e
-    then Some (record { ticket = e.key.ticket; version = e.version; floor = e.floor; payload = e.payload })
-    else None
+image_left e = if is_sealed e then Some image else None
+  where
+    image : Image
+    image = record {
+      ticket = e.key.ticket;
+      version = e.version;
+      floor = e.floor;
+      dependency = e.dependency;
+      payload = e.payload;
+    }
 
 -- the image of a device: what the last Sealed or Lost element on it left, else that of the factory
 abbrev pub image_of : BoardValue → List Element → ℕ → Option Image
@@ -145,6 +154,10 @@ image_of board list d =
 -- the version of a device's image, 0 where it has none
 abbrev pub version_of : BoardValue → List Element → ℕ → ℕ
 version_of board list d = unwrap_or (option_map (λ i. i.version) (image_of board list d)) 0
+
+-- the dependency section of a device's image, empty where it has none
+abbrev pub dependency_of : BoardValue → List Element → ℕ → List ℕ
+dependency_of board list d = unwrap_or (option_map (λ i. i.dependency) (image_of board list d)) []
 
 -- the versions of all devices by their types, in board order
 abbrev pub versions_of : BoardValue → List Element → List (Guid × ℕ)

@@ -1,15 +1,18 @@
 //! What holds of the reference machine, whatever is delivered, whatever fails, and whatever the formats say. Each law is the
 //! contract of a function that does nothing.
 
-ghost use Rattle.std.specs.Prelude.{◌≡◌, ◌<◌, ◌≤◌, ◌^◌, ℕ, List, ◌++◌};
+ghost use Rattle.std.specs.Prelude.{◌≡◌, ◌<◌, ◌≤◌, ◌^◌, ℕ, List, [], ◌++◌, find, Some};
 ghost use Rattle.bench_model.specs.Boards.{BoardValue, IsBoard};
-ghost use Rattle.reference_machine.specs.Boots.{boot_at};
-ghost use Rattle.reference_machine.specs.Events.{Act, Run, trace_of, machine_after};
+ghost use Rattle.reference_machine.specs.Boots.{boot_at, boot_of};
+ghost use Rattle.reference_machine.specs.Events.{Act, IsIn, Run, Step, cut_machines, trace_of, machine_after};
 ghost use Rattle.reference_machine.specs.Formats.{Formats};
-ghost use Rattle.reference_machine.specs.Laws.{IsReached, OpenIsLast, AttemptsReachFloor, AreApart, StandInOrder, HaveDistinctKeys, SpentFilesAreKept, IsWithinLimits, SerialsAreGiven, KeepsLimits, TellNoFault};
+ghost use Rattle.reference_machine.specs.Laws.{IsReached, Grows, OpenIsLast, AttemptsReachFloor, AreApart, StandInOrder, HaveDistinctKeys, SpentFilesHaveProgress, IsWithinLimits, SerialsAreGiven, KeepsLimits, TellNoFault};
 ghost use Rattle.reference_machine.specs.Machine.{Machine, fresh};
-ghost use Rattle.reference_machine.specs.Spent.{Element, floor_of};
-ghost use Rattle.reference_machine.specs.Told.{Said};
+ghost use Rattle.reference_machine.specs.Report.{ReportValue};
+ghost use Rattle.reference_machine.specs.Spent.{Element, is_open, floor_of};
+ghost use Rattle.reference_machine.specs.Stops.{Agrees};
+ghost use Rattle.reference_machine.specs.Stops.StopCause.{Volume};
+ghost use Rattle.reference_machine.specs.TraceValues.{EntryValue};
 ghost use Rattle.reference_machine.specs.declared.unit.End.{End};
 
 /// The floor in force of a device never falls along the list of spent units.
@@ -39,12 +42,12 @@ pub fn units_stand_in_order()
     ensures keys { (f : Formats) (board : BoardValue) (m : Machine) → IsReached f board m → HaveDistinctKeys m.list }
 {}
 
-/// A file of which units are spent has its serial in `kept`.
-pub fn spent_files_are_kept()
-    ensures { (f : Formats) (board : BoardValue) (m : Machine) → IsReached f board m → SpentFilesAreKept m }
+/// A file of which units are spent has its progress stored.
+pub fn spent_files_have_progress()
+    ensures { (f : Formats) (board : BoardValue) (m : Machine) → IsReached f board m → SpentFilesHaveProgress m }
 {}
 
-/// Files, staged deliveries and the serials in `kept` are within their limits. The serials of spent units and those in `kept`
+/// Files, staged deliveries and the serials of stored progress are within their limits. The serials of spent units and those of stored progress
 /// are at most the last ones, and a staged delivery has no spent unit.
 pub fn limits_are_kept()
     ensures limits { (f : Formats) (board : BoardValue) (m : Machine) → IsReached f board m → IsWithinLimits m }
@@ -59,9 +62,37 @@ pub fn a_boot_is_short()
 
 /// Events that tell no fault tell one trace and leave one machine, and there is such a run of any events.
 pub fn without_faults_there_is_one_machine()
-    ensures one { (f : Formats) (board : BoardValue) (acts : List Act) (told : List Said) (m : Machine) →
+    ensures one { (f : Formats) (board : BoardValue) (acts : List Act) (told : List EntryValue) (m : Machine) →
         Run f (fresh board) acts told m → TellNoFault told →
         (told ≡ trace_of f (fresh board) acts) × (m ≡ machine_after f (fresh board) acts) }
     ensures some { (f : Formats) (board : BoardValue) (acts : List Act) →
         Run f (fresh board) acts (trace_of f (fresh board) acts) (machine_after f (fresh board) acts) }
+{}
+
+/// The list of spent units only grows, but for its last element closing: by each event, and by the steps of a boot.
+pub fn the_list_only_grows()
+    ensures events { (f : Formats) (board : BoardValue) (m : Machine) → IsReached f board m →
+        (act : Act) (entry : EntryValue) (new : Machine) → Step f m act entry new →
+        Grows m.list new.list }
+    ensures boots { (f : Formats) (board : BoardValue) (m : Machine) → IsReached f board m →
+        (h : End) (j : ℕ) → Grows m.list (boot_at f m h j).machine.list }
+{}
+
+/// Nothing is left of a whole boot.
+#[tactic(auto, using(crate::proofs::Ending::boot_ends))]
+pub fn a_whole_boot_is_done()
+    ensures { (f : Formats) (m : Machine) (h : End) → (boot_of f m h).left ≡ [] }
+{}
+
+/// No boot is stopped by the volume before its heal: where an element is open, a report that agrees then tells a step.
+#[tactic(auto, using(crate::proofs::Reading::healed_before))]
+pub fn the_heal_stands_before_the_volume()
+    ensures { (f : Formats) (m : Machine) (h : End) (r : ReportValue) (new : Machine) (e : Element) →
+        find is_open m.list ≡ Some e → Agrees f m h r Volume new → 0 < r.steps }
+{}
+
+/// The machines of an event that is cut off are reached.
+pub fn cut_events_leave_reached_machines()
+    ensures { (f : Formats) (board : BoardValue) (m : Machine) → IsReached f board m →
+        (act : Act) (new : Machine) → IsIn new (cut_machines f m act) → IsReached f board new }
 {}

@@ -22,11 +22,11 @@ pub struct Report {
 }
 
 impl Report {
-    ghost use Rattle.reference_machine.specs.Report.{report_of, nothing_done};
+    ghost use Rattle.reference_machine.specs.Report.{report_value, nothing_done};
 
     /// The report of a boot that did nothing. It takes no memory.
     pub fn new(alloc: Global) -> Report
-        ensures { report_of result ≡ nothing_done }
+        ensures { report_value result ≡ nothing_done }
     {
         Report {
             opened: None,

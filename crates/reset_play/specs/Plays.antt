@@ -9,7 +9,7 @@ use Rattle.reference_machine.specs.Deliveries.{is_target}
 use Rattle.reference_machine.specs.Events.{Act, act_of, trace_of}
 use Rattle.reference_machine.specs.Machine.{fresh}
 use Rattle.reset_play.specs.Thin.{thin, thin_item, is_thin}
-use Rattle.reference_machine.specs.Told.{Said}
+use Rattle.reference_machine.specs.TraceValues.{EntryValue}
 
 -- the board has one device
 abbrev pub has_one_device : BoardValue → Bool
@@ -56,5 +56,5 @@ abbrev pub acts_of : Named → List Event → List Act
 acts_of named events = map (act_of (loaded_bytes named)) events
 
 -- what the reference machine tells of the events, from a fresh board
-abbrev pub thin_trace : BoardValue → Named → List Event → List Said
+abbrev pub thin_trace : BoardValue → Named → List Event → List EntryValue
 thin_trace board named events = trace_of thin (fresh board) (acts_of named events)

@@ -46,8 +46,18 @@ abbrev pub plain_parts : List ℕ → ℕ → Option Parts
 plain_parts image support =
     if is_refused image
     then None
-    else Some (record { version = number_at image 8 4; lowest = number_at image 12 4; payload = drop (number_at image 4 4) image; is_satisfied = λ versions. true })
+    else Some (record {
+      version = number_at image 8 4;
+      lowest = number_at image 12 4;
+      dependency = [];
+      payload = drop (number_at image 4 4) image;
+    })
 
--- the formats as far as thin deliveries by file need them
+-- the formats as far as thin deliveries by file need them: there is no dependency section to ask for
 abbrev pub thin : Formats
-thin = record { capsules = thin_capsules; parts = plain_parts; coalesced = λ memory address. None }
+thin = record {
+  capsules = thin_capsules;
+  parts = plain_parts;
+  is_satisfied = λ section versions. true;
+  coalesced = λ memory address. None;
+}

@@ -1,5 +1,5 @@
 -- What the values of a play on lists say in the words of the reference machine.
-use Rattle.std.specs.Prelude.{ℕ, List, Option, None, Some, true, if◌then◌else◌}
+use Rattle.std.specs.Prelude.{ℕ, List, [], Option, None, Some, if◌then◌else◌}
 use Rattle.cu_base.specs.declared.guid.Guid.{Guid}
 use Rattle.reset_play.specs.declared.thin_play.delivery.ThinItem.{ThinItem}
 use Rattle.reset_play.specs.declared.thin_play.delivery.PlainParts.{PlainParts}
@@ -26,9 +26,9 @@ item_of t = record { head = thin_head t.type_id t.index t.instance; image = t.im
 abbrev pub thin_said : List ℕ → Option Item
 thin_said bytes = if is_thin bytes then Some (thin_item bytes) else None
 
--- the parts that a value says; an image without dependencies is satisfied by any versions
+-- the parts that a value says, without a dependency section
 abbrev pub parts_of : PlainParts → Parts
-parts_of p = record { version = p.version; lowest = p.lowest; payload = p.payload.now; is_satisfied = λ versions. true }
+parts_of p = record { version = p.version; lowest = p.lowest; dependency = []; payload = p.payload.now }
 
 -- what a standing says: no event of a play on lists moves the clock
 abbrev pub standing_of : Standing → spent.Standing
@@ -44,6 +44,7 @@ attempt_of key head version floor payload standing = record {
   head = head;
   version = version;
   floor = floor;
+  dependency = [];
   payload = payload;
   standing = standing_of standing;
 }

@@ -7,12 +7,12 @@ use Rattle.reference_machine.specs.Names.{is_taken_before}
 use Rattle.reference_machine.specs.Order.{in_order}
 use Rattle.reset_play.specs.Plays.{has_one_device, is_thin_on}
 use Rattle.reference_machine.specs.Spent.{Element, is_open}
-use Rattle.reset_play.specs.Whole.{at, held, marks_of}
+use Rattle.reset_play.specs.Whole.{between_tasks, open_rest, marks_of}
 use Rattle.reset_play.proofs.Held.{none_held, held_none}
 use Rattle.reference_machine.proofs.Ordered.{ordered_length}
 use Rattle.reset_play.proofs.OneUnit.{ordered_all}
 use Rattle.reset_play.proofs.PlayParts.{folder_parts}
-use Rattle.reset_play.proofs.thin_play.platform.Platform.take_folder.Goals as goal
+use Rattle.reset_play.proofs.thin_play.platform.ListPlatform.take_folder.Goals as goal
 
 pub do_files-requires-clause-few : goal.do_files-requires-clause-few
 do_files-requires-clause-few c =
@@ -34,15 +34,15 @@ pub returns-clause-ok : goal.returns-clause-ok
 returns-clause-ok c =
     let before : File → File → Bool = λ a b. is_taken_before a.name b.name in
     let asked : c.self.inside.asked ≡ true = search rules in
-    let bit : c.args.self.now.bit ≡ true = ap (λ (m : Machine). m.bit) (sym c.self.view_is) ∙ asked in
+    let is_signalled : c.args.self.now.is_signalled ≡ true = ap (λ (m : Machine). m.is_signalled) (sym c.self.view_is) ∙ asked in
     let one : IsTrue (has_one_device c.args.self.now.board) = subst (λ (m : Machine). IsTrue (has_one_device m.board)) c.self.view_is c.self.invariant.one in
     let all : IsTrue (list_all (λ (x : File). is_thin_on c.args.self.now.board x.bytes) c.args.self.now.files) = subst (λ (m : Machine). IsTrue (list_all (λ (x : File). is_thin_on m.board x.bytes) m.files)) c.self.view_is c.self.invariant.thin in
     let ordered : c.deref-3.result.now ≡ in_order before c.self.inside.files.items = c.deref-3.ensures.value ∙ c.in_ok-ordered.ensures ∙ ap (in_order before) c.deref.ensures.value in
     let is : c.deref-3.result.now ≡ files_in_order c.args.self.now = ordered ∙ ap (λ (m : Machine). in_order before m.files) c.self.view_is in
-    let rests : find is_open (c.self.inside.done.items ++ held c.self.inside.claimed) ≡ None = subst (λ (m : Machine). find is_open m.list ≡ None) (sym c.self.view_is) c.requires.rests in
+    let rests : find is_open (c.self.inside.done.items ++ open_rest c.self.inside.claimed) ≡ None = subst (λ (m : Machine). find is_open m.list ≡ None) (sym c.self.view_is) c.requires.rests in
     let none : c.self.inside.claimed ≡ None = none_held c.self.inside.done.items c.self.inside.claimed c.self.invariant.closed_before c.self.invariant.open_last rests in
     let list : c.as_slice.result.now ≡ c.args.self.now.list = c.as_slice.ensures ∙ sym (held_none c.self.inside.done.items c.self.inside.claimed none) ∙ ap (λ (m : Machine). m.list) c.self.view_is in
     let marked : c.as_slice-2.result.now ≡ marks_of c.args.self.now.list c.deref-3.result.now =
     c.as_slice-2.ensures ∙ c.in_ok-marks.ensures ∙ ap (λ (l : List Element). marks_of l c.deref-2.result.now) list ∙ ap (marks_of c.args.self.now.list) (c.deref-2.ensures.value ∙ sym c.deref-3.ensures.value) in
-    folder_parts c.args.self.now c.deref-3.result.now c.as_slice-2.result.now (at c.args.self.now c.args.report.now) (at c.prune.new.self c.prune.new.report) (at c.do_files.new.self c.do_files.new.report) (at c.clear.new.self c.clear.new.report)
-    bit one all is marked c.in_ok-prune.ensures.ok c.in_ok-do_files.ensures.ok c.clear.ensures.value
+    folder_parts c.args.self.now c.deref-3.result.now c.as_slice-2.result.now (between_tasks c.args.self.now c.args.report.now) (between_tasks c.prune.new.self c.prune.new.report) (between_tasks c.do_files.new.self c.do_files.new.report) (between_tasks c.clear.new.self c.clear.new.report)
+    is_signalled one all is marked c.in_ok-prune.ensures.ok c.in_ok-do_files.ensures.ok c.clear.ensures.value
