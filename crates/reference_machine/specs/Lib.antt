@@ -8,6 +8,7 @@ pub mod Names
 pub mod Order
 pub mod Report
 pub mod Results
+pub mod Samples
 pub mod Spent
 pub mod Stops
 pub mod TraceValues

@@ -10,6 +10,7 @@ mod event;
 mod laws;
 mod limits;
 mod report;
+mod samples;
 mod snapshot;
 mod trace;
 mod unit;
@@ -32,6 +33,7 @@ pub use limits::{
     MAX_CAPSULE_ITEMS, MAX_DELIVERY_CAPSULES, MAX_FILES, MAX_MEMORY_BYTES, MAX_SEGMENTS, MAX_STAGED,
 };
 pub use report::Report;
+pub use samples::{sample_boots, sample_deliveries, sample_orders, sample_results, sample_staging};
 pub use snapshot::{CapsuleResult, EsrtEntry, FmpResult, FolderFile, Snapshot, StagedPair};
 pub use trace::{Answer, BootEnd, Entry};
 pub use unit::{End, Kind, UnitKey, UnitLine};
