@@ -88,10 +88,14 @@ is_folder_full m name =
 abbrev pub wraps : ℕ → List ℕ → Bool
 wraps address bytes = nat_lt (2 ^ 64 - 1) (address + length bytes)
 
--- 256 segments are laid, or the bytes would pass their limit
+-- how many bytes are laid, those that later segments hide counted too
+abbrev pub laid_bytes : Machine → ℕ
+laid_bytes m = sum_by (λ s. length s.bytes) m.memory
+
+-- as many segments are laid as there may be, or the bytes would pass their limit
 abbrev pub is_memory_full : Machine → List ℕ → Bool
 is_memory_full m bytes =
-    nat_le MAX_SEGMENTS (length m.memory) || nat_lt MAX_MEMORY_BYTES (sum_by (λ s. length s.bytes) m.memory + length bytes)
+    nat_le MAX_SEGMENTS (length m.memory) || nat_lt MAX_MEMORY_BYTES (laid_bytes m + length bytes)
 
 -- the machine with one more segment
 abbrev pub with_segment : Machine → ℕ → List ℕ → Machine

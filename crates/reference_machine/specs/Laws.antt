@@ -1,15 +1,15 @@
 -- What holds of every machine that is reached from a fresh board, whatever is delivered and whatever fails.
-use Rattle.std.specs.Prelude.{◌≡◌, ◌≢◌, ◌⊎◌, ℕ, ◌<◌, ◌≤◌, Bool, false, ◌==◌, List, [], ◌∷◌, ◌++◌, IsTrue, length, filter, find, Option, None, Some}
+use Rattle.std.specs.Prelude.{◌≡◌, ◌≢◌, ◌⊎◌, ℕ, ◌+◌, ◌<◌, ◌≤◌, Bool, false, ◌==◌, List, [], ◌∷◌, ◌++◌, IsTrue, length, filter, find, Option, None, Some}
 use Rattle.std.specs.List.{AllByRecursion, list_any}
 use Rattle.cu_base.specs.declared.time.EfiTime.{EfiTime}
-use Rattle.reference_machine.specs.declared.limits.TheConstants.{MAX_FILES, MAX_STAGED, MAX_DELIVERY_CAPSULES}
+use Rattle.reference_machine.specs.declared.limits.TheConstants.{MAX_FILES, MAX_STAGED, MAX_SEGMENTS, MAX_MEMORY_BYTES, MAX_DELIVERY_CAPSULES}
 use Rattle.reference_machine.specs.declared.trace.BootEnd.{BootEnd}
 use Rattle.reference_machine.specs.declared.trace.BootEnd.TheVariants as ends
 use Rattle.reference_machine.specs.declared.unit.End.{End}
 use Rattle.reference_machine.specs.declared.unit.UnitKey.{UnitKey}
 use Rattle.bench_model.specs.Boards.{BoardValue}
 use Rattle.reference_machine.specs.Boots.{boot_at, progress_with}
-use Rattle.reference_machine.specs.Events.{Act, Step}
+use Rattle.reference_machine.specs.Events.{Act, Step, laid_bytes}
 use Rattle.reference_machine.specs.Formats.{Capsule, Formats}
 use Rattle.reference_machine.specs.Machine.{File, Machine, fresh}
 use Rattle.reference_machine.specs.Names.{is_same_name}
@@ -138,3 +138,7 @@ pub record ClosesLast (old new : List Element) : Type 0 where
 -- one list of spent units grew to another: by more elements, of which an open last one was closed before
 abbrev pub Grows : List Element → List Element → Type 0
 Grows old new = ((more : List Element) × (new ≡ old ++ more)) ⊎ ClosesLast old new
+
+-- no more segments may be laid, or not so many bytes
+abbrev pub IsPastMemory : Machine → List ℕ → Type 0
+IsPastMemory m bytes = (MAX_SEGMENTS ≤ length m.memory) ⊎ (MAX_MEMORY_BYTES < laid_bytes m + length bytes)

@@ -1,19 +1,25 @@
 //! What holds of the reference machine, whatever is delivered, whatever fails, and whatever the formats say. Each law is the
 //! contract of a function that does nothing.
 
-ghost use Rattle.std.specs.Prelude.{◌≡◌, ◌<◌, ◌≤◌, ◌^◌, ℕ, List, [], ◌++◌, find, Some};
+ghost use Rattle.std.specs.Prelude.{◌≡◌, ◌<◌, ◌≤◌, ◌^◌, ◌↔◌, ℕ, List, [], ◌++◌, find, length, Some, None, true, false, if◌then◌else◌};
 ghost use Rattle.bench_model.specs.Boards.{BoardValue, IsBoard};
 ghost use Rattle.reference_machine.specs.Boots.{boot_at, boot_of};
-ghost use Rattle.reference_machine.specs.Events.{Act, IsIn, Run, Step, cut_machines, trace_of, machine_after};
-ghost use Rattle.reference_machine.specs.Formats.{Formats};
-ghost use Rattle.reference_machine.specs.Laws.{IsReached, Grows, OpenIsLast, AttemptsReachFloor, AreApart, StandInOrder, HaveDistinctKeys, SpentFilesHaveProgress, IsWithinLimits, SerialsAreGiven, KeepsLimits, TellNoFault};
+ghost use Rattle.reference_machine.specs.Deliveries.{BootUnit};
+ghost use Rattle.reference_machine.specs.Events.{Act, IsIn, Run, Step, cut_machines, is_memory_full, trace_of, machine_after};
+ghost use Rattle.reference_machine.specs.Formats.{Formats, Parts};
+ghost use Rattle.reference_machine.specs.Laws.{IsReached, IsPastMemory, Grows, OpenIsLast, AttemptsReachFloor, AreApart, StandInOrder, HaveDistinctKeys, SpentFilesHaveProgress, IsWithinLimits, SerialsAreGiven, KeepsLimits, TellNoFault};
 ghost use Rattle.reference_machine.specs.Machine.{Machine, fresh};
 ghost use Rattle.reference_machine.specs.Report.{ReportValue};
 ghost use Rattle.reference_machine.specs.Spent.{Element, is_open, floor_of};
 ghost use Rattle.reference_machine.specs.Stops.{Agrees};
 ghost use Rattle.reference_machine.specs.Stops.StopCause.{Volume};
 ghost use Rattle.reference_machine.specs.TraceValues.{EntryValue};
+ghost use Rattle.reference_machine.specs.Verdicts.{refusal_with, is_admitted, capacity_of, keeps_dependencies};
 ghost use Rattle.reference_machine.specs.declared.unit.End.{End};
+
+use crate::{
+    MAX_CAPSULE_ITEMS, MAX_DELIVERY_CAPSULES, MAX_FILES, MAX_MEMORY_BYTES, MAX_SEGMENTS, MAX_STAGED,
+};
 
 /// The floor in force of a device never falls along the list of spent units.
 #[tactic(auto, using(crate::proofs::Floors::never_falls))]
@@ -95,4 +101,37 @@ pub fn the_heal_stands_before_the_volume()
 pub fn cut_events_leave_reached_machines()
     ensures { (f : Formats) (board : BoardValue) (m : Machine) → IsReached f board m →
         (act : Act) (new : Machine) → IsIn new (cut_machines f m act) → IsReached f board new }
+{}
+
+/// The limits of a platform, in numbers.
+pub fn the_limits_are_these()
+    ensures files { MAX_FILES ≡ 32 }
+    ensures staged { MAX_STAGED ≡ 8 }
+    ensures segments { MAX_SEGMENTS ≡ 256 }
+    ensures memory { MAX_MEMORY_BYTES ≡ 134217728 }
+    ensures capsules { MAX_DELIVERY_CAPSULES ≡ 8 }
+    ensures items { MAX_CAPSULE_ITEMS ≡ 16 }
+{}
+
+/// Memory is full exactly where no more segments may be laid, or not so many bytes.
+#[tactic(auto, using(crate::proofs::Reading::memory_full))]
+pub fn memory_is_full_past_its_limits()
+    ensures { (m : Machine) (bytes : List ℕ) → is_memory_full m bytes ≡ true ↔ IsPastMemory m bytes }
+{}
+
+/// The checks of a try stand in this order, each refusing with its LastAttemptStatus (UEFI 2.10, 23.4).
+pub fn the_checks_stand_in_order()
+    ensures format { (f : Formats) (m : Machine) (u : BootUnit) → refusal_with f m u None ≡ Some 4 }
+    ensures admission { (f : Formats) (m : Machine) (u : BootUnit) (p : Parts) →
+        is_admitted m.board u.image ≡ false → refusal_with f m u (Some p) ≡ Some 5 }
+    ensures capacity { (f : Formats) (m : Machine) (u : BootUnit) (p : Parts) →
+        is_admitted m.board u.image ≡ true → capacity_of m.board u.key.device < length p.payload →
+        refusal_with f m u (Some p) ≡ Some 2 }
+    ensures version { (f : Formats) (m : Machine) (u : BootUnit) (p : Parts) →
+        is_admitted m.board u.image ≡ true → length p.payload ≤ capacity_of m.board u.key.device →
+        p.version < floor_of m.board m.list u.key.device → refusal_with f m u (Some p) ≡ Some 3 }
+    ensures dependencies { (f : Formats) (m : Machine) (u : BootUnit) (p : Parts) →
+        is_admitted m.board u.image ≡ true → length p.payload ≤ capacity_of m.board u.key.device →
+        floor_of m.board m.list u.key.device ≤ p.version → refusal_with f m u (Some p) ≡
+        (if keeps_dependencies f m u.key.device p then None else Some 8) }
 {}

@@ -26,7 +26,8 @@ pub use event::Event;
 pub use laws::{
     a_boot_is_short, a_whole_boot_is_done, attempts_reach_the_floor,
     cut_events_leave_reached_machines, deliveries_are_apart, floor_never_falls, limits_are_kept,
-    spent_files_have_progress, the_heal_stands_before_the_volume, the_last_alone_is_open,
+    memory_is_full_past_its_limits, spent_files_have_progress, the_checks_stand_in_order,
+    the_heal_stands_before_the_volume, the_last_alone_is_open, the_limits_are_these,
     the_list_only_grows, units_stand_in_order, without_faults_there_is_one_machine,
 };
 pub use limits::{
