@@ -4,8 +4,8 @@ use Rattle.std.specs.List.{flat_map, AllByRecursion}
 use Rattle.std.proofs.lemmas.Bool.{leb-true}
 use Rattle.std.proofs.lemmas.List.{flat_map_more, take_all, take_rest, take-append-drop, length-take, length-drop}
 use Rattle.cu_base.specs.declared.limits.TheConstants.{MAX_CAPSULE_BYTES}
-use Rattle.fmp_headers.specs.Bytes.{IsBytes}
-use Rattle.fmp_headers.proofs.Fields.{take_field, IsBytes-drop}
+use Rattle.cu_base.specs.Bytes.{IsBytes}
+use Rattle.cu_base.proofs.Fields.{take_field, IsBytes-drop}
 use Rattle.capsule_grammar.specs.declared.value.Capsule.{Capsule}
 use Rattle.capsule_grammar.specs.declared.refusal.Why.{Why}
 use Rattle.capsule_grammar.specs.declared.refusal.Why.TheVariants.{TooManyCapsules}

@@ -4,15 +4,15 @@ use Rattle.std.proofs.lemmas.Bool.{cases_lt, cond-true, cond-false, lt-ltb, le-l
 use Rattle.std.proofs.lemmas.Bool.Decides.{nat_tests}
 use Rattle.std.proofs.lemmas.List.{take_all, take_at, take-take, drop-take, length-take, length-append}
 use Rattle.cu_base.specs.Fields.{number, field, number_at, bytes_of}
-use Rattle.cu_base.specs.Refusals.{Row, row, first_refusal}
+use Rattle.cu_base.specs.Refusals.{Row, row_at, first_refusal}
 use Rattle.fmp_headers.specs.CapsuleHeader.{header_size, image_size, is_short, has_bad_header_size, is_above_limit}
 use Rattle.fmp_headers.specs.ImageHeader.{image_version, is_image_version, image_header_size, image_header_rows}
-use Rattle.fmp_headers.proofs.Fields.{length-bytes_of}
-use Rattle.capsule_grammar.specs.Refusals.{driver_count, image_count, item_count, list_end, offset, bound, image_parts_size, image_rows, capsule_rows}
+use Rattle.cu_base.proofs.Fields.{length-bytes_of}
+use Rattle.capsule_grammar.specs.Refusals.{driver_count, image_count, item_count, list_end, offset, start_of, bound, image_parts_size, image_rows, capsule_rows}
 use Rattle.capsule_grammar.specs.declared.refusal.Why.{Why}
 use Rattle.capsule_grammar.specs.declared.refusal.Why.TheVariants.{Short, BadHeaderSize, BadImageSize, BadImageVersion, ImageOutside}
 use Rattle.capsule_grammar.specs.Accepted.{AreBounds}
-use Rattle.capsule_grammar.specs.Fronts.{Begins, bound_by, ArePlaces}
+use Rattle.capsule_grammar.specs.Fronts.{Begins}
 use Rattle.capsule_grammar.proofs.Offsets.{bound_is, bound_ends}
 
 -- ---- which fronts begin which bytes
@@ -85,11 +85,11 @@ shorter_least {front} {bytes} least n b there low =
 -- ---- the capsule header
 
 -- its rows, by the head and the length of the whole
-abbrev pub capsule_rows_by : List ℕ → ℕ → List (Row Why)
+abbrev pub capsule_rows_by : List ℕ → ℕ → List (Row (ℕ × Why))
 capsule_rows_by head size =
-    row (is_short head) 0 Short
-    ∷ row (has_bad_header_size head) 16 BadHeaderSize
-    ∷ row (is_above_limit head || ltb size (image_size head)) 24 BadImageSize
+    row_at (is_short head) 0 Short
+    ∷ row_at (has_bad_header_size head) 16 BadHeaderSize
+    ∷ row_at (is_above_limit head || ltb size (image_size head)) 24 BadImageSize
     ∷ []
 
 pub capsule_refusal_same : {head bytes : List ℕ} {size : ℕ} → Begins head size bytes → min 28 size ≤ length head → first_refusal (capsule_rows bytes) ≡ first_refusal (capsule_rows_by head size)
@@ -115,12 +115,12 @@ image_parts_size_same {head} {image} b there =
     rw (v, i, w) refl
 
 -- the rows of an image item, by its head and its length
-abbrev pub image_rows_by : List ℕ → ℕ → ℕ → List (Row Why)
+abbrev pub image_rows_by : List ℕ → ℕ → ℕ → List (Row (ℕ × Why))
 image_rows_by head size at =
-    row (ltb (length head) 32) at Short
-    ∷ row (not (is_image_version (image_version head))) at BadImageVersion
-    ∷ row (ltb (length head) (image_header_size (image_version head))) at Short
-    ∷ row (ltb size (image_parts_size head)) (at + 24) ImageOutside
+    row_at (ltb (length head) 32) at Short
+    ∷ row_at (not (is_image_version (image_version head))) at BadImageVersion
+    ∷ row_at (ltb (length head) (image_header_size (image_version head))) at Short
+    ∷ row_at (ltb size (image_parts_size head)) (at + 24) ImageOutside
     ∷ []
 
 pub image_refusal_same : {head image : List ℕ} {size : ℕ} (at : ℕ) → Begins head size image → min 48 size ≤ length head → first_refusal (image_rows image at) ≡ first_refusal (image_rows_by head size at)
@@ -160,30 +160,30 @@ list_end_same b there = ap (λ (n : ℕ). 8 + 8 * n) (item_count_same b there)
 pub offset_same : {front body : List ℕ} {size : ℕ} (k : ℕ) → Begins front size body → list_end front ≤ length front → k < item_count front → offset body k ≡ offset front k
 offset_same k b list there = number_same (8 + 8 * k) 8 b (omega arith)
 
-pub bound_by_is : (front : List ℕ) (size k : ℕ) → k < item_count front → bound_by front size k ≡ offset front k
-bound_by_is front size k here = cond-true _ _ _ (lt-ltb k (item_count front) here)
+pub start_of_is : (front : List ℕ) (size k : ℕ) → k < item_count front → start_of front size k ≡ offset front k
+start_of_is front size k here = cond-true _ _ _ (lt-ltb k (item_count front) here)
 
-pub bound_by_ends : (front : List ℕ) (size k : ℕ) → item_count front ≤ k → bound_by front size k ≡ size
-bound_by_ends front size k end = cond-false _ _ _ (le-ltb k (item_count front) end)
+pub start_of_ends : (front : List ℕ) (size k : ℕ) → item_count front ≤ k → start_of front size k ≡ size
+start_of_ends front size k end = cond-false _ _ _ (le-ltb k (item_count front) end)
 
-pub bound_same : {front body : List ℕ} {size : ℕ} (k : ℕ) → Begins front size body → list_end front ≤ length front → bound body k ≡ bound_by front size k
+pub bound_same : {front body : List ℕ} {size : ℕ} (k : ℕ) → Begins front size body → list_end front ≤ length front → bound body k ≡ start_of front size k
 bound_same {front} {body} {size} k b list =
     let n : item_count body ≡ item_count front = item_count_same b (omega arith) in
     elim (cases_lt k (item_count front)) [
-      | inl here ↦ bound_is body k (omega (arith, n, here)) ∙ offset_same k b list here ∙ sym (bound_by_is front size k here)
-      | inr end ↦ bound_ends body k (omega (arith, n, end)) ∙ b.long ∙ sym (bound_by_ends front size k end)
+      | inl here ↦ bound_is body k (omega (arith, n, here)) ∙ offset_same k b list here ∙ sym (start_of_is front size k here)
+      | inr end ↦ bound_ends body k (omega (arith, n, end)) ∙ b.long ∙ sym (start_of_ends front size k end)
     ]
 
 -- the bounds of each body that begins so, by its front alone
-pub are_places : (front : List ℕ) (size : ℕ) → length front ≤ size → list_end front ≤ length front → ((body : List ℕ) → Begins front size body → AreBounds body) → ArePlaces front size
+pub are_places : (front : List ℕ) (size : ℕ) → length front ≤ size → list_end front ≤ length front → ((body : List ℕ) → Begins front size body → AreBounds body (length body)) → AreBounds front size
 are_places front size within list h =
     let w = some_whole front size within in
     let body = w.0 in
     let b : Begins front size body = w.1 in
-    let are : AreBounds body = h body b in
+    let are : AreBounds body (length body) = h body b in
     let n : item_count body ≡ item_count front = item_count_same b (omega arith) in
     let e : list_end body ≡ list_end front = list_end_same b (omega arith) in
-    let at : (k : ℕ) → bound body k ≡ bound_by front size k = λ k. bound_same k b list in
+    let at : (k : ℕ) → bound body k ≡ start_of front size k = λ k. bound_same k b list in
     record {
       behind = λ k le. omega (arith, e, at k, are.behind k (omega (arith, n, le)));
       within = λ k le. omega (arith, b.long, at k, are.within k (omega (arith, n, le)));

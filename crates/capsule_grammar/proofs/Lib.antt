@@ -1,5 +1,5 @@
-pub mod Tables
 pub mod FrontLemmas
+pub mod FoundLemmas
 pub mod Offsets
 pub mod Lists
 pub mod Read

@@ -5,7 +5,7 @@ use Rattle.std.proofs.lemmas.List.{drop-drop}
 use Rattle.std.proofs.lemmas.List.FromFn.{map-range_with_len_more}
 use Rattle.std.proofs.lemmas.Bool.{and_from}
 use Rattle.cu_base.specs.Fields.{field}
-use Rattle.fmp_headers.proofs.Fields.{take_field}
+use Rattle.cu_base.proofs.Fields.{take_field}
 
 pub field_split : (bytes : List ℕ) (at m n : ℕ) → field bytes at m ++ field bytes (at + m) n ≡ field bytes at (m + n)
 field_split bytes at m n = ap (λ (l : List ℕ). take m (drop at bytes) ++ take n l) (sym (drop-drop m at bytes)) ∙ take_field (drop at bytes) m n

@@ -2,10 +2,9 @@
 use Rattle.std.proofs.Common.{◌≡◌, ℕ, ◌+◌, ◌-◌, ◌<◌, ◌≤◌, ltb, leb, List, length, None, arith, inl, inr}
 use Rattle.std.proofs.lemmas.Bool.{ltb-false, leb-false, lt-ltb, le-ltb, or_parts, and_cases, cases_lt, cond-true, cond-false, both_ways}
 use Rattle.cu_base.specs.Refusals.{first_refusal}
-use Rattle.fmp_headers.proofs.Rows.{passed}
+use Rattle.cu_base.proofs.Rows.{passed, each_in}
 use Rattle.capsule_grammar.specs.Refusals.{item_count, list_end, offset, bound, offset_rows, all_offset_rows}
 use Rattle.capsule_grammar.specs.Accepted.{AreBounds}
-use Rattle.capsule_grammar.proofs.Tables.{each_in}
 
 -- an offset that is not refused
 record IsOffset (body : List ℕ) (k : ℕ) : Type 0 where
@@ -32,7 +31,7 @@ bound_is body k h = cond-true _ _ _ (lt-ltb k (item_count body) h)
 pub bound_ends : (body : List ℕ) (k : ℕ) → item_count body ≤ k → bound body k ≡ length body
 bound_ends body k h = cond-false _ _ _ (le-ltb k (item_count body) h)
 
-pub are_bounds : (body : List ℕ) (at : ℕ) → list_end body ≤ length body → ((k : ℕ) → k < item_count body → first_refusal (offset_rows body at k) ≡ None) → AreBounds body
+pub are_bounds : (body : List ℕ) (at : ℕ) → list_end body ≤ length body → ((k : ℕ) → k < item_count body → first_refusal (offset_rows body at k) ≡ None) → AreBounds body (length body)
 are_bounds body at long h = record {
   behind = λ k le. elim (cases_lt k (item_count body)) [
     | inl here ↦ rw (bound_is body k here) (is_offset body at k (h k here)).behind
@@ -58,5 +57,5 @@ are_bounds body at long h = record {
   ];
 }
 
-pub all_are_bounds : (body : List ℕ) (at : ℕ) → list_end body ≤ length body → first_refusal (all_offset_rows body at) ≡ None → AreBounds body
+pub all_are_bounds : (body : List ℕ) (at : ℕ) → list_end body ≤ length body → first_refusal (all_offset_rows body at) ≡ None → AreBounds body (length body)
 all_are_bounds body at long e = are_bounds body at long (λ k here. each_in (offset_rows body at) 0 (item_count body) k e (omega arith) (omega arith))

@@ -7,23 +7,22 @@ use Rattle.std.proofs.lemmas.List.FromFn.{length-map-range_with_len}
 use Rattle.cu_base.specs.Fields.{field, number_at, bytes_of}
 use Rattle.cu_base.specs.Refusals.{first_refusal}
 use Rattle.cu_base.specs.declared.limits.TheConstants.{MAX_CAPSULE_BYTES}
-use Rattle.fmp_headers.specs.Bytes.{IsBytes}
+use Rattle.cu_base.specs.Bytes.{IsBytes}
 use Rattle.fmp_headers.specs.CapsuleHeader.{header_size, image_size, capsule_header_rows, capsule_header_fields, capsule_header_bytes}
-use Rattle.fmp_headers.specs.FmpHeader.{fmp_header_rows as fmp_header_refusals, fmp_header, fmp_header_fields, fmp_header_bytes}
+use Rattle.fmp_headers.specs.FmpHeader.{fmp_header_rows, fmp_header, fmp_header_fields, fmp_header_bytes}
 use Rattle.fmp_headers.specs.ImageHeader.{image_header_rows, image_header_fields, image_header_bytes, image_header_size, image_version, IsImageHeader}
 use Rattle.fmp_headers.specs.declared.capsule.CapsuleHeader.{CapsuleHeader}
-use Rattle.fmp_headers.proofs.Rows.{passed, none_refused}
+use Rattle.cu_base.proofs.Rows.{passed, none_refused, first-parts, each_in}
 use Rattle.fmp_headers.proofs.Headers.{header_given, capsule_header_back, fmp_header_back}
 use Rattle.fmp_headers.proofs.Images.{image_header_back, image_header_kept}
-use Rattle.fmp_headers.proofs.Fields.{length-field, next_field, take_field, bytes_of-number_at, number_at-below, IsBytes-field}
+use Rattle.cu_base.proofs.Fields.{length-field, next_field, take_field, bytes_of-number_at, number_at-below, IsBytes-field}
 use Rattle.capsule_grammar.specs.declared.value.Body.{Body}
 use Rattle.capsule_grammar.specs.declared.value.Body.TheVariants.{Other, Fmp}
-use Rattle.capsule_grammar.specs.Refusals.{refusal, capsule_rows, is_fmp_guid, body_of, fmp_rows, fmp_header_rows, all_offset_rows, all_image_rows, image_rows, driver_count, image_count, item_count, list_end, bound, item}
+use Rattle.capsule_grammar.specs.Refusals.{refusal, capsule_rows, is_fmp_guid, body_of, fmp_rows, fmp_front_rows, all_offset_rows, all_image_rows, image_rows, driver_count, image_count, item_count, list_end, bound, item}
 use Rattle.capsule_grammar.specs.Accepted.{AreBounds, IsImageItem, IsFmpBody, IsFront}
 use Rattle.capsule_grammar.specs.Spelling.{image_bytes, item_bytes, offsets, fmp_bytes, body_bytes, spelling}
 use Rattle.capsule_grammar.specs.Fits.{is_nonempty, image_fits, fmp_fits, body_fits, HaveWidths, IsCapsule}
 use Rattle.capsule_grammar.specs.Reading.{image_of, fmp_of, body_read, capsule_of}
-use Rattle.capsule_grammar.proofs.Tables.{first-parts, each_in}
 use Rattle.capsule_grammar.proofs.Offsets.{all_are_bounds, bound_is, bound_ends}
 use Rattle.capsule_grammar.proofs.Lists.{field_split, between_split, map_range, map-range-append, map-map-range, all_of_range, all_range, regroup, append_both}
 
@@ -61,7 +60,7 @@ image_read_fits image is good =
 -- ---- the items of a body
 
 -- the bounds do not fall
-pub bounds_rise : (body : List ℕ) (a n : ℕ) → AreBounds body → a + n ≤ item_count body → bound body a ≤ bound body (a + n)
+pub bounds_rise : (body : List ℕ) (a n : ℕ) → AreBounds body (length body) → a + n ≤ item_count body → bound body a ≤ bound body (a + n)
 bounds_rise body a zero are le = let e : a + 0 ≡ a = omega arith in rw e (omega arith)
 bounds_rise body a (suc n) are le =
     let e : a + suc n ≡ a + 1 + n = omega arith in
@@ -70,7 +69,7 @@ bounds_rise body a (suc n) are le =
     rw e (omega (arith, here, there))
 
 -- n items from item a on are the bytes between their bounds
-pub items_between : (body : List ℕ) (a n : ℕ) → AreBounds body → a + n ≤ item_count body → concat (map (item body) (range_with_len a n)) ≡ field body (bound body a) (bound body (a + n) - bound body a)
+pub items_between : (body : List ℕ) (a n : ℕ) → AreBounds body (length body) → a + n ≤ item_count body → concat (map (item body) (range_with_len a n)) ≡ field body (bound body a) (bound body (a + n) - bound body a)
 items_between body a zero are le =
     let e : a + 0 ≡ a = omega arith in
     let z : bound body a - bound body a ≡ 0 = omega arith in
@@ -82,14 +81,14 @@ items_between body a (suc n) are le =
     ∙ between_split body (bound body a) (bound body (a + 1)) (bound body (a + 1 + n)) (are.rising a (omega arith)) (bounds_rise body (a + 1) n are (omega arith)))
 
 -- the next bound is the length of the item away
-pub next_bound : (body : List ℕ) (k : ℕ) → AreBounds body → k < item_count body → bound body k + length (item body k) ≡ bound body (k + 1)
+pub next_bound : (body : List ℕ) (k : ℕ) → AreBounds body (length body) → k < item_count body → bound body k + length (item body k) ≡ bound body (k + 1)
 next_bound body k are here =
     let rises = are.rising k here in
     let within = are.within (k + 1) (omega arith) in
     omega (arith, rises, length-field body (bound body k) (bound body (k + 1) - bound body k) (omega (arith, rises, within)))
 
 -- and their offsets are their bounds
-pub offsets_are : (body : List ℕ) (a n : ℕ) (here : ℕ) → AreBounds body → a + n ≤ item_count body → here ≡ bound body a → offsets here (map (item body) (range_with_len a n)) ≡ map (bound body) (range_with_len a n)
+pub offsets_are : (body : List ℕ) (a n : ℕ) (here : ℕ) → AreBounds body (length body) → a + n ≤ item_count body → here ≡ bound body a → offsets here (map (item body) (range_with_len a n)) ≡ map (bound body) (range_with_len a n)
 offsets_are body a zero here are le e = refl
 offsets_are body a (suc n) here are le e =
     let next : here + length (item body a) ≡ bound body (a + 1) = omega (arith, e, next_bound body a are (omega arith)) in
@@ -110,9 +109,9 @@ list_is body a (suc n) is long le =
 
 pub is_fmp_body : (body : List ℕ) (at : ℕ) → first_refusal (fmp_rows body at) ≡ None → IsFmpBody body
 is_fmp_body body at e =
-    let head = first-parts (fmp_header_rows body at) (all_offset_rows body at ++ all_image_rows body at) e in
+    let head = first-parts (fmp_front_rows body at) (all_offset_rows body at ++ all_image_rows body at) e in
     let tail = first-parts (all_offset_rows body at) (all_image_rows body at) head.1 in
-    let r = passed (fmp_header_rows body at) head.0 in
+    let r = passed (fmp_front_rows body at) head.0 in
     let long : list_end body ≤ length body = ltb-false _ _ r.1.1.0 in
     record {
       version = eqb-true _ _ (not-false _ r.1.0);
@@ -146,7 +145,7 @@ pub same_header : (d d' i i' : ℕ) → d ≡ d' → i ≡ i' → fmp_header_byt
 same_header d d' i i' ed ei = rw (ed, ei) refl
 
 fmp_read : (body : List ℕ) → number_at body 0 4 ≡ 1 → 8 ≤ length body → fmp_header body ≡ Ok (fmp_header_fields body)
-fmp_read body version long = header_given (first_refusal (fmp_header_refusals body)) (fmp_header_fields body) (fmp_header_fields body) (none_refused (fmp_header_refusals body) (le-ltb _ _ long, (not_from_true _ (eq-eqb _ _ version), tt))) refl
+fmp_read body version long = header_given (first_refusal (fmp_header_rows body)) (fmp_header_fields body) (fmp_header_fields body) (none_refused (fmp_header_rows body) (le-ltb _ _ long, (not_from_true _ (eq-eqb _ _ version), tt))) refl
 
 pub fmp_spelled : (body : List ℕ) → IsBytes body → IsFmpBody body → fmp_bytes (fmp_of body) ≡ body
 fmp_spelled body is good =

@@ -5,12 +5,12 @@ use Rattle.std.proofs.lemmas.Bool.{lt-ltb, le-ltb, cond-true, cond-false, cases_
 use Rattle.std.proofs.lemmas.List.{append-nil, take_all, length-take}
 use Rattle.std.proofs.lemmas.List.FromFn.{length-map-range_with_len, get_or-map-range_with_len}
 use Rattle.cu_base.specs.Fields.{field, number_at, bytes_of}
-use Rattle.fmp_headers.specs.Bytes.{IsBytes}
+use Rattle.cu_base.specs.Bytes.{IsBytes}
 use Rattle.fmp_headers.specs.FmpHeader.{fmp_header_bytes}
 use Rattle.fmp_headers.specs.CapsuleHeader.{header_size, image_size, capsule_header_bytes}
 use Rattle.fmp_headers.specs.ImageHeader.{image_header_fields, image_header_bytes, image_header_size, image_version}
 use Rattle.fmp_headers.specs.declared.capsule.CapsuleHeader.{CapsuleHeader}
-use Rattle.fmp_headers.proofs.Fields.{next_field, IsBytes-field, length-field}
+use Rattle.cu_base.proofs.Fields.{next_field, IsBytes-field, length-field}
 use Rattle.fmp_headers.proofs.Images.{image_header_back}
 use Rattle.capsule_grammar.specs.declared.value.Body.{Body}
 use Rattle.capsule_grammar.specs.declared.value.Body.TheVariants.{Other, Fmp}

@@ -5,10 +5,10 @@ use Rattle.std.proofs.lemmas.Bool.{cases_lt, cond-true}
 use Rattle.std.proofs.lemmas.List.{take_all, length-take}
 use Rattle.std.proofs.lemmas.List.FromFn.{length-map-range_with_len}
 use Rattle.cu_base.specs.Fields.{bytes_of, field, number_at}
-use Rattle.fmp_headers.specs.Bytes.{IsBytes}
+use Rattle.cu_base.specs.Bytes.{IsBytes}
 use Rattle.fmp_headers.specs.FmpHeader.{fmp_header_bytes}
 use Rattle.fmp_headers.specs.CapsuleHeader.{header_size, image_size, capsule_header_bytes}
-use Rattle.fmp_headers.proofs.Fields.{IsBytes-field, length-field}
+use Rattle.cu_base.proofs.Fields.{IsBytes-field, length-field}
 use Rattle.capsule_grammar.specs.Accepted.{IsFmpBody}
 use Rattle.capsule_grammar.specs.Reading.{image_of, fmp_of, capsule_of}
 use Rattle.capsule_grammar.specs.Rebuilt.{emptied_fmp, emptied, with_body, kept, kept_items}

@@ -9,25 +9,24 @@ use Rattle.cu_base.specs.Fields.{field, number_at, bytes_of}
 use Rattle.cu_base.specs.Refusals.{first_refusal}
 use Rattle.cu_base.specs.declared.limits.TheConstants.{MAX_CAPSULE_BYTES}
 use Rattle.fmp_headers.specs.CapsuleHeader.{header_size, image_size, capsule_header, capsule_header_rows, capsule_header_fields, capsule_header_bytes}
-use Rattle.fmp_headers.specs.FmpHeader.{fmp_header_fields, fmp_header_bytes, fmp_header_rows as fmp_header_refusals}
+use Rattle.fmp_headers.specs.FmpHeader.{fmp_header_fields, fmp_header_bytes, fmp_header_rows}
 use Rattle.fmp_headers.specs.ImageHeader.{image_header_rows, image_header_fields, image_header_bytes, image_header_size, IsImageHeader}
 use Rattle.fmp_headers.specs.declared.image.ImageHeader.{ImageHeader}
 use Rattle.fmp_headers.specs.declared.fmp.FmpHeader.{FmpHeader}
 use Rattle.fmp_headers.specs.declared.capsule.CapsuleHeader.{CapsuleHeader}
-use Rattle.fmp_headers.proofs.Rows.{passed, none_refused}
+use Rattle.cu_base.proofs.Rows.{passed, none_refused, first-none, none_in}
 use Rattle.fmp_headers.proofs.Headers.{header_or_ok, capsule_header_again, fmp_header_again}
 use Rattle.fmp_headers.proofs.Images.{image_header_again, length-image_header_bytes}
-use Rattle.fmp_headers.proofs.Fields.{field_in, number_at_in, length-bytes_of}
+use Rattle.cu_base.proofs.Fields.{field_in, number_at_in, length-bytes_of}
 use Rattle.capsule_grammar.specs.declared.value.Image.{Image}
 use Rattle.capsule_grammar.specs.declared.value.Body.{Body}
 use Rattle.capsule_grammar.specs.declared.value.Body.TheVariants.{Other, Fmp}
 use Rattle.capsule_grammar.specs.declared.value.Capsule.{Capsule}
 use Rattle.capsule_grammar.specs.Values.{FmpValue}
-use Rattle.capsule_grammar.specs.Refusals.{refusal, capsule_rows, is_fmp_guid, body_of, fmp_rows, fmp_header_rows, offset_rows, all_offset_rows, all_image_rows, image_rows, image_parts_size, driver_count, image_count, item_count, list_end, offset, bound, item}
+use Rattle.capsule_grammar.specs.Refusals.{refusal, capsule_rows, is_fmp_guid, body_of, fmp_rows, fmp_front_rows, offset_rows, all_offset_rows, all_image_rows, image_rows, image_parts_size, driver_count, image_count, item_count, list_end, offset, bound, item}
 use Rattle.capsule_grammar.specs.Spelling.{image_bytes, item_bytes, offsets, fmp_bytes, body_bytes, first_place, header_of, spelling}
 use Rattle.capsule_grammar.specs.Fits.{is_nonempty, image_fits, fmp_fits, body_fits, HaveWidths, IsCapsule}
 use Rattle.capsule_grammar.specs.Reading.{image_of, fmp_of, capsule_of}
-use Rattle.capsule_grammar.proofs.Tables.{first-none, none_in}
 use Rattle.capsule_grammar.proofs.Offsets.{bound_is, bound_ends}
 use Rattle.capsule_grammar.proofs.Lists.{regroup}
 
@@ -246,13 +245,13 @@ reads_body v is sized =
     let body = fmp_bytes v in
     let header : FmpHeader = record { drivers = length v.drivers; items = length v.images } in
     let tail = flat_map (bytes_of 8) (offsets (8 + 8 * length items + length v.lead) items) ++ (v.lead ++ concat items) in
-    let read = header_or_ok (first_refusal (fmp_header_refusals body)) (fmp_header_fields body) header (fmp_header_again header tail (record { drivers = is.drivers; items = is.images })) in
+    let read = header_or_ok (first_refusal (fmp_header_rows body)) (fmp_header_fields body) header (fmp_header_again header tail (record { drivers = is.drivers; items = is.images })) in
     let counted : length items ≡ length v.drivers + length v.images = length-append v.drivers (map image_bytes v.images) ∙ (let m = length-map v.images image_bytes in omega arith) in
     let drivers : driver_count body ≡ length v.drivers = ap (λ (h : FmpHeader). h.drivers) read.1 in
     let images : image_count body ≡ length v.images = ap (λ (h : FmpHeader). h.items) read.1 in
     let parts = reads_parts body (fmp_header_bytes header) v.lead items (8 + 8 * length items + length v.lead) refl refl refl (omega (arith, sized)) in
     record {
-      version = eqb-true _ _ (not-false _ (passed (fmp_header_refusals body) read.0).1.0);
+      version = eqb-true _ _ (not-false _ (passed (fmp_header_rows body) read.0).1.0);
       drivers = drivers;
       images = images;
       items = omega (arith, drivers, images, counted);
@@ -355,7 +354,7 @@ rows_of_body body v at is r =
     let end : list_end body ≡ 8 + 8 * length items = omega (arith, r.items) in
     let long : list_end body ≤ length body = omega (arith, r.long, end) in
     let short : 8 ≤ length body = omega arith in
-    let header : first_refusal (fmp_header_rows body at) ≡ None = none_refused (fmp_header_rows body at) (le-ltb _ _ short, (not_from_true _ (eq-eqb _ _ r.version), (le-ltb _ _ long, tt))) in
+    let header : first_refusal (fmp_front_rows body at) ≡ None = none_refused (fmp_front_rows body at) (le-ltb _ _ short, (not_from_true _ (eq-eqb _ _ r.version), (le-ltb _ _ long, tt))) in
     let offsets : first_refusal (all_offset_rows body at) ≡ None = none_in (offset_rows body at) 0 (item_count body) (λ k low high. offset_row body v at k is r (omega (arith, r.items))) in
     let images : first_refusal (all_image_rows body at) ≡ None = none_in (λ k. image_rows (item body k) (at + bound body k)) (driver_count body) (image_count body) (λ k low high.
     let there : k < length items = omega (arith, r.drivers, r.images) in
@@ -363,7 +362,7 @@ rows_of_body body v at is r =
     let i = image_item v.images (k - length v.drivers) is.widths is.each (omega arith) in
     let e : item body k ≡ image_bytes i.0 = item_is body v k r there ∙ get_or-append_right v.drivers (map image_bytes v.images) (length v.drivers) k [] refl behind ∙ i.1 in
     ap (λ (l : List ℕ). first_refusal (image_rows l (at + bound body k))) e ∙ rows_of_image (image_bytes i.0) (at + bound body k) i.0 (reads_image i.0 i.2)) in
-    first-none (fmp_header_rows body at) (all_offset_rows body at ++ all_image_rows body at) header ∙ first-none (all_offset_rows body at) (all_image_rows body at) offsets ∙ images
+    first-none (fmp_front_rows body at) (all_offset_rows body at ++ all_image_rows body at) header ∙ first-none (all_offset_rows body at) (all_image_rows body at) offsets ∙ images
 
 -- ---- a capsule
 

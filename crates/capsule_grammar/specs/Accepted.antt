@@ -4,15 +4,15 @@ use Rattle.cu_base.specs.Fields.{number_at}
 use Rattle.cu_base.specs.declared.limits.TheConstants.{MAX_CAPSULE_BYTES}
 use Rattle.fmp_headers.specs.CapsuleHeader.{header_size, image_size, capsule_header, capsule_header_fields}
 use Rattle.fmp_headers.specs.ImageHeader.{image_header, image_header_fields}
-use Rattle.capsule_grammar.specs.Refusals.{driver_count, item_count, list_end, bound, item, image_parts_size}
+use Rattle.capsule_grammar.specs.Refusals.{driver_count, item_count, list_end, start_of, item, image_parts_size}
 
--- Each item begins behind the offset list and ends where the next one begins, the last at the end. Only the last
--- can be empty.
-pub record AreBounds (body : List ℕ) : Type 0 where
-  pub behind : (k : ℕ) → k ≤ item_count body → list_end body ≤ bound body k
-  pub within : (k : ℕ) → k ≤ item_count body → bound body k ≤ length body
-  pub apart : (k : ℕ) → k + 1 < item_count body → bound body k < bound body (k + 1)
-  pub rising : (k : ℕ) → k < item_count body → bound body k ≤ bound body (k + 1)
+-- Each item of a body of this front and size begins behind the offset list and ends where the next
+-- one begins, the last at the end. Only the last can be empty.
+pub record AreBounds (front : List ℕ) (size : ℕ) : Type 0 where
+  pub behind : (k : ℕ) → k ≤ item_count front → list_end front ≤ start_of front size k
+  pub within : (k : ℕ) → k ≤ item_count front → start_of front size k ≤ size
+  pub apart : (k : ℕ) → k + 1 < item_count front → start_of front size k < start_of front size (k + 1)
+  pub rising : (k : ℕ) → k < item_count front → start_of front size k ≤ start_of front size (k + 1)
 
 -- an item that is an image
 pub record IsImageItem (image : List ℕ) : Type 0 where
@@ -23,7 +23,7 @@ pub record IsImageItem (image : List ℕ) : Type 0 where
 pub record IsFmpBody (body : List ℕ) : Type 0 where
   pub version : number_at body 0 4 ≡ 1
   pub long : list_end body ≤ length body
-  pub bounds : AreBounds body
+  pub bounds : AreBounds body (length body)
   pub images : (k : ℕ) → driver_count body ≤ k → k < item_count body → IsImageItem (item body k)
 
 -- a capsule header whose capsule is there

@@ -55,3 +55,9 @@ pub record IsCapsule (c : Capsule) : Type 0 where
   pub widths : HaveWidths c.body
   pub fits : IsTrue (fits c)
   pub sized : IsTrue (is_sized c)
+
+-- the bytes begin with the spelling of this capsule, of this length
+pub record BeginsWith (c : Capsule) (n : ℕ) (bytes : List ℕ) : Type 0 where
+  pub capsule : IsCapsule c
+  pub size : n ≡ length (spelling c)
+  pub spelled : take n bytes ≡ spelling c

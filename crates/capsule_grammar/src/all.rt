@@ -14,7 +14,7 @@ pub const MAX_CAPSULES: u32 = 8;
 /// from the start of the bytes. A ninth capsule is refused as TooManyCapsules at its place, before it is
 /// read; no bytes are Short at 0.
 pub fn decode_all(alloc: Global, bytes: &[u8]) -> Result<Capsules, DecodeFault>
-    ensures all { IfOk result (λ list. SpellsAll list.items bytes.now) }
+    ensures ok { IfOk result (λ list. SpellsAll list.items bytes.now) }
     ensures refused { IfErr result (λ e. IsRefusalOfAll e bytes.now) }
 {
     let mut capsules = Capsules::new(alloc);

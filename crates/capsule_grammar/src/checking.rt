@@ -9,14 +9,14 @@ ghost use Rattle.capsule_grammar.specs.Refusals.{Answers, refusal, fmp_rows, all
 use crate::Refusal;
 use crate::header::{check_capsule_header, is_fmp_guid};
 use crate::parts::{
-    bound_by, check_fmp_header, check_image, check_offsets, driver_count, image_count,
+    check_fmp_header, check_image, check_offsets, driver_count, image_count, start_of,
 };
 
 /// The length of the capsule at the front of the bytes, or the first wrong place. It takes no memory
 /// and copies nothing.
 pub fn check(bytes: &[u8]) -> Result<usize, Refusal>
-    ensures rows { Answers result (refusal bytes.now) }
-    ensures length { IfOk result (λ n. n ≡ image_size bytes.now) }
+    ensures ok { IfOk result (λ n. n ≡ image_size bytes.now) }
+    ensures refused { Answers result (refusal bytes.now) }
 {
     let header = check_capsule_header(bytes, bytes.len() as u64)?;
     if is_fmp_guid(&header.guid) {
@@ -40,7 +40,7 @@ pub fn check_fmp(body: &[u8], at: u32) -> Result<(), Refusal>
 fn check_images(body: &[u8], at: u32) -> Result<(), Refusal>
     requires small { at + length body.now < 2 ^ 31 }
     requires list { list_end body.now ≤ length body.now }
-    requires bounds { AreBounds body.now }
+    requires bounds { AreBounds body.now (length body.now) }
     ensures { Answers result (first_refusal (all_image_rows body.now at)) }
 {
     let drivers = driver_count(body) as u32;
@@ -60,13 +60,13 @@ pub fn bound(body: &[u8], k: u32) -> usize
     requires there { k ≤ item_count body.now }
     ensures { result ≡ bound body.now k }
 {
-    bound_by(body, body.len(), k)
+    start_of(body, body.len(), k)
 }
 
 /// The bytes of item `k`.
 pub fn item(body: &[u8], k: u32) -> &[u8]
     requires list { list_end body.now ≤ length body.now }
-    requires bounds { AreBounds body.now }
+    requires bounds { AreBounds body.now (length body.now) }
     requires there { k < item_count body.now }
     requires few { k < 2 ^ 17 }
     ensures { result.now ≡ item body.now k }

@@ -18,9 +18,9 @@ use std::alloc::Global;
 /// The bytes of the capsule. It is TooLarge exactly where they are more than 67,108,864.
 pub fn encode(alloc: Global, capsule: &Capsule) -> Result<Blob, EncodeFault>
     requires { IsTrue (fits capsule.now) }
-    ensures spelled { IfOk result (λ bytes. bytes ≡ spelling capsule.now) }
-    ensures sized { OnOk result (is_sized capsule.now ≡ true) }
-    ensures large { IsErrOf result EncodeFault.TooLarge → is_sized capsule.now ≡ false }
+    ensures ok { IfOk result (λ bytes. bytes ≡ spelling capsule.now) }
+    ensures bound { OnOk result (is_sized capsule.now ≡ true) }
+    ensures refused { IsErrOf result EncodeFault.TooLarge → is_sized capsule.now ≡ false }
 {
     let size = capsule_size(capsule);
     if size > MAX_CAPSULE_BYTES as u64 {

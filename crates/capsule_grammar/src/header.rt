@@ -15,8 +15,9 @@ use fmp_headers::{CapsuleHeader, FMP_CAPSULE_GUID, HeaderFault};
 pub fn check_capsule_header(head: &[u8], size: u64) -> Result<CapsuleHeader, Refusal>
     requires there { min 28 size ≤ length head.now }
     requires within { length head.now ≤ size }
-    ensures rows { (bytes : List ℕ) → Begins head.now size bytes → Answers result (first_refusal (capsule_rows bytes)) }
-    ensures fields { IfOk result (λ h. h ≡ capsule_header_fields head.now) }
+    ensures ok { IfOk result (λ h. h ≡ capsule_header_fields head.now) }
+    ensures refused { (bytes : List ℕ) → Begins head.now size bytes →
+        Answers result (first_refusal (capsule_rows bytes)) }
 {
     let (at, why) = match CapsuleHeader::read(head) {
         Ok(header) => {

@@ -2,7 +2,7 @@
 //! bytes is refused or begins with a spelling, never both.
 
 ghost use Rattle.std.specs.Prelude.{◌≡◌, ℕ, List, [], ◌++◌, length, take, None};
-ghost use Rattle.fmp_headers.specs.Bytes.{IsBytes};
+ghost use Rattle.cu_base.specs.Bytes.{IsBytes};
 ghost use Rattle.fmp_headers.specs.CapsuleHeader.{image_size};
 ghost use Rattle.capsule_grammar.specs.declared.value.Capsule.{Capsule};
 ghost use Rattle.capsule_grammar.specs.Refusals.{refusal};

@@ -11,8 +11,8 @@ ghost use Rattle.capsule_grammar.specs.Refusals.{is_fmp_guid, body_of, driver_co
 use crate::checking::{bound, item};
 use crate::header::is_fmp_guid;
 use crate::{Body, Capsule, FmpBody, Image, Images};
-use cu_base::{Blob, Blobs, NoMemory};
-use fmp_headers::{ImageHeader, guid_at, image_header_size, u16_at, u32_at};
+use cu_base::{Blob, Blobs, NoMemory, guid_at, u16_at, u32_at};
+use fmp_headers::{ImageHeader, image_header_size};
 use std::alloc::Global;
 
 /// The capsule at the front.

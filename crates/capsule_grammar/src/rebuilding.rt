@@ -3,10 +3,11 @@
 
 ghost use Rattle.std.specs.Prelude.{◌≡◌, ◌↔◌, true, take, ◌+◌, ◌<◌, ◌≤◌, ◌++◌, ◌^◌, None, length, IfOk, IfErr, OnOk};
 ghost use Rattle.std.specs.List.{concat, flat_map};
+ghost use Rattle.cu_base.specs.Refusals.{AnswersBy};
 ghost use Rattle.cu_base.specs.Fields.{bytes_of};
 ghost use Rattle.fmp_headers.specs.CapsuleHeader.{image_size};
 ghost use Rattle.capsule_grammar.specs.Accepted.{IsFront, IsFmpBody, IsImageItem};
-ghost use Rattle.capsule_grammar.specs.Faults.{IsRefusal};
+ghost use Rattle.capsule_grammar.specs.Faults.{told_by};
 ghost use Rattle.capsule_grammar.specs.Reading.{capsule_of, fmp_of};
 ghost use Rattle.capsule_grammar.specs.Rebuilt.{emptied, emptied_fmp, with_body, kept, kept_items};
 ghost use Rattle.capsule_grammar.specs.Refusals.{refusal, body_of, item_count, list_end, image_parts_size};
@@ -17,15 +18,14 @@ use crate::checking::item;
 use crate::header::is_fmp_guid;
 use crate::reading::image_header;
 use crate::{DecodeFault, check};
-use cu_base::{Blob, NoMemory, put_u64};
-use fmp_headers::{CapsuleHeader, FmpHeader, guid_at, image_header_size, u16_at, u32_at};
+use cu_base::{Blob, NoMemory, guid_at, put_u64, u16_at, u32_at};
+use fmp_headers::{CapsuleHeader, FmpHeader, image_header_size};
 use std::alloc::Global;
 
 /// The bytes of the capsule at the front with its lead and every pad empty. All else, `ext` too, is kept.
 pub fn rebuild(alloc: Global, bytes: &[u8]) -> Result<Blob, DecodeFault>
-    ensures rebuilt { IfOk result (λ out. out ≡ spelling (emptied (capsule_of bytes.now))) }
-    ensures accepted { IfOk result (λ _. refusal bytes.now ≡ None) }
-    ensures refused { IfErr result (λ e. IsRefusal e (refusal bytes.now)) }
+    ensures ok { IfOk result (λ out. out ≡ spelling (emptied (capsule_of bytes.now))) }
+    ensures refused { AnswersBy told_by result (refusal bytes.now) }
 {
     let size = check(bytes)?;
     if is_fmp_guid(&guid_at(bytes, 0)) {

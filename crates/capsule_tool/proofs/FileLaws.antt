@@ -15,7 +15,7 @@ use Rattle.cu_io.proofs.Taking.{goes_after}
 use Rattle.fmp_headers.specs.CapsuleHeader.{header_size, image_size, is_short, capsule_header, capsule_header_fields, capsule_header_rows}
 use Rattle.fmp_headers.specs.declared.capsule.CapsuleHeader.{CapsuleHeader}
 use Rattle.fmp_headers.specs.declared.faults.HeaderFault.{HeaderFault}
-use Rattle.fmp_headers.proofs.Rows.{passed}
+use Rattle.cu_base.proofs.Rows.{passed}
 use Rattle.fmp_headers.proofs.Headers.{header_or_ok, header_given}
 use Rattle.capsule_grammar.specs.Fronts.{Begins}
 use Rattle.capsule_grammar.specs.Refusals.{capsule_rows, fmp_rows, body_of, is_fmp_guid}

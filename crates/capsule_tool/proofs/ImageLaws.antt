@@ -8,11 +8,11 @@ use Rattle.cu_base.specs.Fields.{field}
 use Rattle.cu_base.specs.Refusals.{first_refusal}
 use Rattle.cu_io.specs.Streams.{Progress, Goes}
 use Rattle.cu_io.proofs.Taking.{goes_after}
-use Rattle.capsule_grammar.specs.Fronts.{Begins, bound_by}
-use Rattle.capsule_grammar.specs.Refusals.{image_rows, all_image_rows, driver_count, image_count, item_count, list_end, item, bound}
+use Rattle.capsule_grammar.specs.Fronts.{Begins}
+use Rattle.capsule_grammar.specs.Refusals.{image_rows, all_image_rows, driver_count, image_count, item_count, list_end, item, start_of, bound}
 use Rattle.capsule_grammar.specs.declared.refusal.Why.{Why}
 use Rattle.capsule_grammar.proofs.FrontLemmas.{begins_less, field_same, bound_same, driver_count_same, image_count_same}
-use Rattle.capsule_grammar.proofs.Tables.{some_in, none_in}
+use Rattle.cu_base.proofs.Rows.{some_in, none_in}
 use Rattle.capsule_tool.specs.Scans.{Scans, ScansImage}
 use Rattle.capsule_tool.specs.declared.scan.stop.ScanStop.{ScanStop}
 use Rattle.capsule_tool.specs.declared.scan.stop.ScanStop.TheVariants.{Refused, Ended, Failed, Memory}
@@ -41,7 +41,7 @@ field_behind xs ys at n long most =
 
 -- the head of an item of every body that begins so
 head_begins : (front bytes passed head body : List ℕ) (size k f t : ℕ) → Begins (front ++ (bytes ++ (passed ++ head))) size body → list_end front ≤ length front
-    → f ≡ bound_by front size k → t ≡ bound_by front size (k + 1) → t ≤ size → length (front ++ bytes) + length passed ≡ f → length head ≡ min 48 (t - f)
+    → f ≡ start_of front size k → t ≡ start_of front size (k + 1) → t ≤ size → length (front ++ bytes) + length passed ≡ f → length head ≡ min 48 (t - f)
     → Begins head (t - f) (item body k)
 head_begins front bytes passed head body size k f t begins list from to within place few =
     let all = front ++ (bytes ++ (passed ++ head)) in
@@ -59,7 +59,7 @@ head_begins front bytes passed head body size k f t begins list from to within p
     rw (f_is, t_is) (record { same = inner ∙ (cut ∙ there); long = long })
 
 item_told : (front bytes passed head body : List ℕ) (size at k f t : ℕ) (refused : Option (ℕ × Why)) → Begins (front ++ (bytes ++ (passed ++ head))) size body → list_end front ≤ length front
-    → f ≡ bound_by front size k → t ≡ bound_by front size (k + 1) → t ≤ size → length (front ++ bytes) + length passed ≡ f → length head ≡ min 48 (t - f)
+    → f ≡ start_of front size k → t ≡ start_of front size (k + 1) → t ≤ size → length (front ++ bytes) + length passed ≡ f → length head ≡ min 48 (t - f)
     → ((image : List ℕ) → Begins head (t - f) image → first_refusal (image_rows image (at + f)) ≡ refused)
     → first_refusal (image_rows (item body k) (at + bound body k)) ≡ refused
 item_told front bytes passed head body size at k f t refused begins list from to within place few tells =
@@ -73,7 +73,7 @@ begins_before : (front bytes more body : List ℕ) (size : ℕ) → Begins (fron
 begins_before front bytes more body size begins = begins_less (front ++ bytes) more (rw (append_assoc front bytes more) begins)
 
 pub scan_on : (front : List ℕ) (size at first k here f t n : ℕ) (a b c : Progress) → HasScanned front size at first k here a b → list_end front ≤ length front
-    → f ≡ bound_by front size k → t ≡ bound_by front size (k + 1) → t ≤ size → here ≤ f → ScansImage (f - here) (t - f) (at + f) b c (Ok n)
+    → f ≡ start_of front size k → t ≡ start_of front size (k + 1) → t ≤ size → here ≤ f → ScansImage (f - here) (t - f) (at + f) b c (Ok n)
     → HasScanned front size at first (k + 1) (f + n) a c
 scan_on front size at first k here f t n a b c was list from to within near (is, (passed, head, gap, few, then, tells)) =
     let place : length (front ++ was.bytes) + length passed ≡ f = omega (arith, was.place, gap, near) in
@@ -91,7 +91,7 @@ scan_on front size at first k here f t n a b c was list from to within near (is,
 
 pub scan_stopped : (X : Type 0) (front : List ℕ) (size at k here f t : ℕ) (a b c : Progress) (stop : ScanStop) → HasScanned front size at (driver_count front) k here a b
     → list_end front ≡ length front → driver_count front ≤ k → k < item_count front
-    → f ≡ bound_by front size k → t ≡ bound_by front size (k + 1) → t ≤ size → here ≤ f → f ≤ t → ScansImage (f - here) (t - f) (at + f) b c (Err stop)
+    → f ≡ start_of front size k → t ≡ start_of front size (k + 1) → t ≤ size → here ≤ f → f ≤ t → ScansImage (f - here) (t - f) (at + f) b c (Err stop)
     → Scans {X = X} size (λ body. all_image_rows body at) front a c (Err stop)
 scan_stopped X front size at k here f t a b c (Refused refusal) was list low high from to within near rises (passed, head, gap, few, then, tells) =
     let place : length (front ++ was.bytes) + length passed ≡ f = omega (arith, was.place, gap, near) in (

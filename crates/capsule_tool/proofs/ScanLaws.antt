@@ -9,11 +9,11 @@ use Rattle.cu_io.specs.declared.stream.StreamFault.{StreamFault}
 use Rattle.cu_io.specs.declared.stream.StreamFault.TheVariants as faults
 use Rattle.cu_io.proofs.Taking.{goes_after}
 use Rattle.capsule_grammar.specs.Fronts.{Begins}
-use Rattle.capsule_grammar.specs.Refusals.{Answers, image_rows, fmp_header_rows, all_offset_rows, all_image_rows, fmp_rows}
+use Rattle.capsule_grammar.specs.Refusals.{Answers, image_rows, fmp_front_rows, all_offset_rows, all_image_rows, fmp_rows}
 use Rattle.capsule_grammar.specs.declared.refusal.Refusal.{Refusal}
 use Rattle.capsule_grammar.specs.declared.refusal.Why.{Why}
 use Rattle.capsule_grammar.proofs.FrontLemmas.{begins_less}
-use Rattle.capsule_grammar.proofs.Tables.{first-none, first-some}
+use Rattle.cu_base.proofs.Rows.{first-none, first-some}
 use Rattle.capsule_tool.specs.ScanStops.{stop_of}
 use Rattle.capsule_tool.specs.Scans.{Tells, IsCut, Scans, IsStop, TellsImage, ScansImage}
 use Rattle.capsule_tool.specs.declared.scan.stop.ScanStop.{ScanStop}
@@ -61,7 +61,7 @@ image_stopped ahead size at a c faults.Failed cut rose = rose refl
 
 -- ---- a part behind bytes that came
 
-pub scans_stop : (X : Type 0) (size n : ℕ) (head : List ℕ) (rows : List ℕ → List (Row Why)) (a b c : Progress) (stop : ScanStop)
+pub scans_stop : (X : Type 0) (size n : ℕ) (head : List ℕ) (rows : List ℕ → List (Row (ℕ × Why))) (a b c : Progress) (stop : ScanStop)
     → Goes head a b → IsStop n b c stop → length head + n ≤ size → Scans {X = X} size rows [] a c (Err stop)
 scans_stop X size n head rows a b c (Refused refusal) first is within = absurd is
 scans_stop X size n head rows a b c Ended first (bytes, short, then, end) within =
@@ -71,25 +71,25 @@ scans_stop X size n head rows a b c Memory first is within = tt
 
 -- ---- the body of an FMP capsule
 
-rows_three : (one two three : List (Row Why)) (refused : Option (ℕ × Why)) → first_refusal one ≡ None → first_refusal two ≡ None → first_refusal three ≡ refused
+rows_three : (one two three : List (Row (ℕ × Why))) (refused : Option (ℕ × Why)) → first_refusal one ≡ None → first_refusal two ≡ None → first_refusal three ≡ refused
     → first_refusal (one ++ (two ++ three)) ≡ refused
 rows_three one two three refused first then last = first-none one (two ++ three) first ∙ (first-none two three then ∙ last)
 
 -- an offset is refused
 pub offsets_told : (X : Type 0) (size at : ℕ) (front : List ℕ) (a b : Progress) (refusal : Refusal) → Goes front a b → length front ≤ size
-    → ((body : List ℕ) → Begins front size body → first_refusal (fmp_header_rows body at) ≡ None)
+    → ((body : List ℕ) → Begins front size body → first_refusal (fmp_front_rows body at) ≡ None)
     → ((body : List ℕ) → Begins front size body → Answers {X = Unit {0}} (Err refusal) (first_refusal (all_offset_rows body at)))
     → Scans {X = X} size (λ body. fmp_rows body at) [] a b (Err (Refused refusal))
 offsets_told X size at front a b refusal goes within header offsets = (
   front,
   goes,
   within,
-  λ body begins. first-none (fmp_header_rows body at) (all_offset_rows body at ++ all_image_rows body at) (header body begins)
+  λ body begins. first-none (fmp_front_rows body at) (all_offset_rows body at ++ all_image_rows body at) (header body begins)
       ∙ first-some (all_offset_rows body at) (all_image_rows body at) (refusal.at, refusal.why) (offsets body begins),
 )
 
 images_tell : (size at : ℕ) (front : List ℕ) (a b c : Progress) (refused : Option (ℕ × Why)) → Goes front a b
-    → ((body : List ℕ) → Begins front size body → first_refusal (fmp_header_rows body at) ≡ None)
+    → ((body : List ℕ) → Begins front size body → first_refusal (fmp_front_rows body at) ≡ None)
     → ((body : List ℕ) → Begins front size body → first_refusal (all_offset_rows body at) ≡ None)
     → Tells size (λ body. all_image_rows body at) front b c refused → Tells size (λ body. fmp_rows body at) [] a c refused
 images_tell size at front a b c refused goes header offsets (bytes, then, within, tells) = (
@@ -98,12 +98,12 @@ images_tell size at front a b c refused goes header offsets (bytes, then, within
   within,
   λ body begins.
       let first : Begins front size body = begins_less front bytes begins in
-      rows_three (fmp_header_rows body at) (all_offset_rows body at) (all_image_rows body at) refused (header body first) (offsets body first) (tells body begins),
+      rows_three (fmp_front_rows body at) (all_offset_rows body at) (all_image_rows body at) refused (header body first) (offsets body first) (tells body begins),
 )
 
 -- the images, behind header and offsets of which none is refused
 pub images_told : {X : Type 0} (size at : ℕ) (front : List ℕ) (a b c : Progress) (result : Result X ScanStop) → Goes front a b
-    → ((body : List ℕ) → Begins front size body → first_refusal (fmp_header_rows body at) ≡ None)
+    → ((body : List ℕ) → Begins front size body → first_refusal (fmp_front_rows body at) ≡ None)
     → ((body : List ℕ) → Begins front size body → first_refusal (all_offset_rows body at) ≡ None)
     → Scans size (λ body. all_image_rows body at) front b c result → Scans size (λ body. fmp_rows body at) [] a c result
 images_told size at front a b c (Ok x) goes header offsets scans = images_tell size at front a b c None goes header offsets scans
@@ -122,7 +122,7 @@ begins_ahead passed bytes whole ahead size gap begins =
       long = omega (arith, length-drop ahead whole, begins.long);
     }
 
-ahead_tells : (ahead size : ℕ) (rows : List ℕ → List (Row Why)) (a b c : Progress) (refused : Option (ℕ × Why)) → Passes ahead a b → Tells size rows [] b c refused
+ahead_tells : (ahead size : ℕ) (rows : List ℕ → List (Row (ℕ × Why))) (a b c : Progress) (refused : Option (ℕ × Why)) → Passes ahead a b → Tells size rows [] b c refused
     → Tells (ahead + size) (λ rest. rows (drop ahead rest)) [] a c refused
 ahead_tells ahead size rows a b c refused (passed, gap, first) (bytes, then, within, tells) = (
   passed ++ bytes,
@@ -131,7 +131,7 @@ ahead_tells ahead size rows a b c refused (passed, gap, first) (bytes, then, wit
   λ whole begins. tells (drop ahead whole) (begins_ahead passed bytes whole ahead size gap begins),
 )
 
-pub scans_ahead : {X : Type 0} (ahead size : ℕ) (rows : List ℕ → List (Row Why)) (a b c : Progress) (result : Result X ScanStop) → Passes ahead a b → Scans size rows [] b c result
+pub scans_ahead : {X : Type 0} (ahead size : ℕ) (rows : List ℕ → List (Row (ℕ × Why))) (a b c : Progress) (result : Result X ScanStop) → Passes ahead a b → Scans size rows [] b c result
     → Scans (ahead + size) (λ rest. rows (drop ahead rest)) [] a c result
 scans_ahead ahead size rows a b c (Ok x) passes scans = ahead_tells ahead size rows a b c None passes scans
 scans_ahead ahead size rows a b c (Err (Refused refusal)) passes scans = ahead_tells ahead size rows a b c (Some (refusal.at, refusal.why)) passes scans

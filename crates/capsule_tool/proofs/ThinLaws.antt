@@ -8,20 +8,19 @@ use Rattle.std.proofs.lemmas.Slice.Eq.{bytes_eq-Decides}
 use Rattle.cu_base.specs.Fields.{field, number_at}
 use Rattle.cu_base.specs.Refusals.{first_refusal}
 use Rattle.cu_base.specs.declared.limits.TheConstants.{MAX_CAPSULE_BYTES}
-use Rattle.fmp_headers.specs.Bytes.{IsBytes}
+use Rattle.cu_base.specs.Bytes.{IsBytes}
 use Rattle.fmp_headers.specs.CapsuleHeader.{header_size, image_size}
 use Rattle.fmp_headers.specs.ImageHeader.{image_version, is_image_version, image_header_size}
-use Rattle.fmp_headers.proofs.Rows.{none_refused}
-use Rattle.fmp_headers.proofs.Fields.{length-field}
+use Rattle.cu_base.proofs.Rows.{none_refused, first-none, none_in}
+use Rattle.cu_base.proofs.Fields.{length-field}
 use Rattle.capsule_grammar.specs.declared.value.Image.{Image}
 use Rattle.capsule_grammar.specs.declared.value.Body.TheVariants.{Other, Fmp}
 use Rattle.capsule_grammar.specs.declared.value.Capsule.{Capsule}
-use Rattle.capsule_grammar.specs.Refusals.{refusal, capsule_rows, is_fmp_guid, body_of, fmp_rows, fmp_header_rows, offset_rows, all_offset_rows, all_image_rows, image_rows, image_parts_size, driver_count, image_count, item_count, list_end, offset, bound, item}
+use Rattle.capsule_grammar.specs.Refusals.{refusal, capsule_rows, is_fmp_guid, body_of, fmp_rows, fmp_front_rows, offset_rows, all_offset_rows, all_image_rows, image_rows, image_parts_size, driver_count, image_count, item_count, list_end, offset, bound, item}
 use Rattle.capsule_grammar.specs.Accepted.{IsImageItem, IsFmpBody}
 use Rattle.capsule_grammar.specs.Spelling.{spelling}
 use Rattle.capsule_grammar.specs.Fits.{IsCapsule}
 use Rattle.capsule_grammar.specs.Reading.{image_of, fmp_of, body_read, capsule_of}
-use Rattle.capsule_grammar.proofs.Tables.{first-none, none_in}
 use Rattle.capsule_grammar.proofs.Offsets.{bound_is, bound_ends}
 use Rattle.capsule_grammar.proofs.Read.{read_is_capsule, read_is_spelled, fmp_case, front_of}
 use Rattle.capsule_grammar.proofs.Spelled.{spelled_is_read, spelled_reads_back, spelled_size}
@@ -114,7 +113,7 @@ rows_of_body body at is thin =
     let one = count_is body is in
     let short : 8 ≤ length body = omega (arith, is.long) in
     let long : list_end body ≤ length body = omega (arith, is.long, one) in
-    let header : first_refusal (fmp_header_rows body at) ≡ None = none_refused (fmp_header_rows body at) (le-ltb _ _ short, (not_from_true _ (eq-eqb _ _ is.version), (le-ltb _ _ long, tt))) in
+    let header : first_refusal (fmp_front_rows body at) ≡ None = none_refused (fmp_front_rows body at) (le-ltb _ _ short, (not_from_true _ (eq-eqb _ _ is.version), (le-ltb _ _ long, tt))) in
     let offsets : first_refusal (all_offset_rows body at) ≡ None = none_in (offset_rows body at) 0 (item_count body) (λ k low high.
     let same : 0 ≡ k = omega (arith, one) in
     subst (λ (j : ℕ). first_refusal (offset_rows body at j) ≡ None) same (offset_row body at is)) in
@@ -122,7 +121,7 @@ rows_of_body body at is thin =
     let images : first_refusal (all_image_rows body at) ≡ None = none_in (λ k. image_rows (item body k) (at + bound body k)) (driver_count body) (image_count body) (λ k low high.
     let same : 0 ≡ k = omega (arith, is.drivers, is.images) in
     subst (λ (j : ℕ). first_refusal (image_rows (item body j) (at + bound body j)) ≡ None) same first) in
-    first-none (fmp_header_rows body at) (all_offset_rows body at ++ all_image_rows body at) header ∙ first-none (all_offset_rows body at) (all_image_rows body at) offsets ∙ images
+    first-none (fmp_front_rows body at) (all_offset_rows body at ++ all_image_rows body at) header ∙ first-none (all_offset_rows body at) (all_image_rows body at) offsets ∙ images
 
 thin_fmp_of : (body : List ℕ) → IsThinPlaced body → IsThinItem (drop 16 body) → IsThinFmp (fmp_of body)
 thin_fmp_of body is thin =

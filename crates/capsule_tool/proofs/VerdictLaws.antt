@@ -14,7 +14,7 @@ use Rattle.capsule_grammar.specs.Refusals.{Answers, capsule_rows, body_rows}
 use Rattle.capsule_grammar.specs.declared.refusal.Refusal.{Refusal}
 use Rattle.capsule_grammar.specs.declared.refusal.Why.{Why}
 use Rattle.capsule_grammar.proofs.FrontLemmas.{number_least}
-use Rattle.capsule_grammar.proofs.Tables.{first-none}
+use Rattle.cu_base.proofs.Rows.{first-none}
 use Rattle.capsule_tool.specs.Check.{verdict_by, verdict_of}
 use Rattle.capsule_tool.specs.Scans.{TellsFile, IsCutFile, IsFound}
 use Rattle.capsule_tool.specs.declared.check.Verdict.{Verdict}

@@ -14,7 +14,7 @@ use Rattle.capsule_tool.specs.declared.scan.stop.ScanStop.TheVariants.{Refused, 
 
 -- Some bytes came. In every part of this size that begins with those that stood before and with them, this is the first
 -- row that holds.
-abbrev pub Tells : ℕ → (List ℕ → List (Row Why)) → List ℕ → Progress → Progress → Option (ℕ × Why) → Type 0
+abbrev pub Tells : ℕ → (List ℕ → List (Row (ℕ × Why))) → List ℕ → Progress → Progress → Option (ℕ × Why) → Type 0
 Tells size rows before old new refused =
     (bytes : List ℕ) × Goes bytes old new × (length (before ++ bytes) ≤ size)
     × ((whole : List ℕ) → Begins (before ++ bytes) size whole → first_refusal (rows whole) ≡ refused)
@@ -24,7 +24,7 @@ abbrev pub IsCut : ℕ → List ℕ → Progress → Progress → Type 0
 IsCut size before old new = (bytes : List ℕ) × Goes bytes old new × (length (before ++ bytes) < size) × IsAtEnd new.left
 
 -- what came of scanning a part of this size, of which some bytes stood before, for these rows
-abbrev pub Scans : {X : Type 0} → ℕ → (List ℕ → List (Row Why)) → List ℕ → Progress → Progress → Result X ScanStop → Type 0
+abbrev pub Scans : {X : Type 0} → ℕ → (List ℕ → List (Row (ℕ × Why))) → List ℕ → Progress → Progress → Result X ScanStop → Type 0
 Scans size rows before old new (Ok done) = Tells size rows before old new None
 Scans size rows before old new (Err (Refused refusal)) = Tells size rows before old new (Some (refusal.at, refusal.why))
 Scans size rows before old new (Err Ended) = IsCut size before old new

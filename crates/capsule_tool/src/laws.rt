@@ -3,7 +3,7 @@
 
 ghost use Rattle.std.specs.Prelude.{◌≡◌, ◌≤◌, ℕ, true, List, [], ◌∷◌, length, Some};
 ghost use Rattle.cu_base.specs.declared.limits.TheConstants.{MAX_CAPSULE_BYTES};
-ghost use Rattle.fmp_headers.specs.Bytes.{IsBytes};
+ghost use Rattle.cu_base.specs.Bytes.{IsBytes};
 ghost use Rattle.capsule_grammar.specs.declared.value.Capsule.{Capsule};
 ghost use Rattle.capsule_grammar.specs.Spelling.{spelling};
 ghost use Rattle.capsule_grammar.specs.Fits.{IsCapsule};

@@ -15,6 +15,7 @@ pub mod laws;
 mod limits;
 mod moment;
 mod number;
+mod places;
 mod status;
 #[cfg(test)]
 mod tests;
@@ -29,7 +30,11 @@ pub use faults::{BaseFault, Failed, NoMemory};
 pub use guid::Guid;
 pub use items::Items;
 pub use limits::MAX_CAPSULE_BYTES;
-pub use number::{put_u16, put_u32, put_u64, read_u16, read_u32, read_u64};
+pub use number::{
+    bytes_of_u16, bytes_of_u32, bytes_of_u64, put_u16, put_u32, put_u64, read_u16, read_u32,
+    read_u64,
+};
+pub use places::{guid_at, three_at, u16_at, u32_at, u64_at};
 pub use status::EfiStatus;
 pub use text::Text;
 pub use ticket::Ticket;

@@ -50,15 +50,22 @@ pub fn put_u64(out: &mut Blob, n: u64) -> Result<(), NoMemory>
 }
 
 /// The 2 bytes of the number, the lowest first.
-pub(crate) fn bytes_of_u16(n: u16) -> [u8; 2]
+pub fn bytes_of_u16(n: u16) -> [u8; 2]
     ensures { result ≡ bytes_of 2 n }
 {
     n.to_le_bytes()
 }
 
 /// The 4 bytes of the number, the lowest first.
-pub(crate) fn bytes_of_u32(n: u32) -> [u8; 4]
+pub fn bytes_of_u32(n: u32) -> [u8; 4]
     ensures { result ≡ bytes_of 4 n }
+{
+    n.to_le_bytes()
+}
+
+/// The 8 bytes of the number, the lowest first.
+pub fn bytes_of_u64(n: u64) -> [u8; 8]
+    ensures { result ≡ bytes_of 8 n }
 {
     n.to_le_bytes()
 }

@@ -5,7 +5,7 @@ use Rattle.std.proofs.lemmas.List.{take_at, drop_at, length-append}
 use Rattle.std.proofs.lemmas.Bool.Decides.{nat_tests}
 use Rattle.cu_base.specs.Fields.{number, bytes_of}
 use Rattle.cu_base.specs.Refusals.{first_refusal}
-use Rattle.cu_base.proofs.FieldLemmas.{reads}
+use Rattle.cu_base.proofs.Fields.{number-bytes_of}
 use Rattle.dep_code.specs.declared.limits.TheConstants.{MAX_SECTION_BYTES}
 use Rattle.dep_code.specs.declared.op.Op.{Op}
 use Rattle.dep_code.specs.declared.op.Op.TheVariants.{PushGuid, PushVersion, VersionStr, And, Or, Not, True, False, Eq, Gt, Gte, Lt, Lte, End, DeclareLength}
@@ -53,7 +53,7 @@ pub text_front : (text rest : List ℕ) → IsTrue (list_all is_nonzero text) �
 text_front text rest e = ap text_size (append_assoc text (0 ∷ []) rest) ∙ text_length text rest e
 
 four_front : (n : ℕ) (rest : List ℕ) → n < 2 ^ 32 → number (take 4 (bytes_of 4 n ++ rest)) ≡ n
-four_front n rest small = ap number (take_at (bytes_of 4 n) rest 4 (length_bytes 4 n)) ∙ reads 4 n small
+four_front n rest small = ap number (take_at (bytes_of 4 n) rest 4 (length_bytes 4 n)) ∙ number-bytes_of 4 n small
 
 pub read_back : (op : Op) (rest : List ℕ) → HasForm op → read_front (op_bytes op ++ rest) ≡ op
 read_back (PushGuid guid) rest h = ap (λ (l : List ℕ). PushGuid (record { bytes = l })) (take_at guid.bytes rest 16 h)

@@ -1,34 +1,13 @@
 -- The bytes of one operation.
-use Rattle.std.proofs.Common.{◌≡◌, ℕ, suc, ◌+◌, ◌-◌, ◌*◌, ◌/◌, ◌%◌, ◌<◌, ◌≤◌, Bool, true, false, cond, ◌==◌, IsTrue, List, [], ◌∷◌, ◌++◌, length, get_or, take, drop, refl, ap, ◌∙◌, ◌||◌, add_comm, add-one, arith}
-use Rattle.std.proofs.lemmas.List.{length-take, get_or-take, get_or_past}
-use Rattle.std.proofs.lemmas.Bool.{cases_lt}
-use Rattle.std.proofs.Common.{inl, inr}
+use Rattle.std.proofs.Common.{◌≡◌, ℕ, suc, ◌+◌, ◌-◌, ◌<◌, ◌≤◌, Bool, true, false, cond, ◌==◌, IsTrue, List, [], ◌∷◌, ◌++◌, length, take, drop, refl, ap, ◌∙◌, ◌||◌, add_comm, add-one, arith}
+use Rattle.std.proofs.lemmas.List.{length-take}
 use Rattle.std.specs.List.{list_all}
 use Rattle.std.proofs.lemmas.Bool.Decides.{nat_tests}
+use Rattle.cu_base.specs.Bytes.{IsBytes}
 use Rattle.cu_base.specs.Fields.{number, number_at, bytes_of}
+use Rattle.cu_base.proofs.Fields.{IsBytes-rest, IsBytes-take, bytes_of-number}
 use Rattle.dep_code.specs.Operations.{is_nonzero}
 use Rattle.dep_code.specs.Refusals.{first_byte, op_size, text_size}
-
--- each number is a byte
-abbrev pub IsBytes : List ℕ → Type 0
-IsBytes bytes = (i : ℕ) → get_or bytes i 0 < 256
-
-pub IsBytes-rest : (b : ℕ) (bytes : List ℕ) → IsBytes (b ∷ bytes) → IsBytes bytes
-IsBytes-rest b bytes h i = h (suc i)
-
-pub IsBytes-take : (n : ℕ) (bytes : List ℕ) → IsBytes bytes → IsBytes (take n bytes)
-IsBytes-take n bytes h i =
-    elim (cases_lt i n) [
-      | inl lt ↦ rw (get_or-take n bytes i 0 lt) (h i)
-      | inr le ↦ rw (get_or_past (take n bytes) i 0 (omega (arith, length-take n bytes))) (omega arith)
-    ]
-
-pub bytes_of-number : (bytes : List ℕ) → IsBytes bytes → bytes_of (length bytes) (number bytes) ≡ bytes
-bytes_of-number [] h = refl
-bytes_of-number (b ∷ bytes) h =
-    let low : (b + 256 * number bytes) % 256 ≡ b = omega (arith, h 0) in
-    let high : (b + 256 * number bytes) / 256 ≡ number bytes = omega (arith, h 0) in
-    rw (low, high, bytes_of-number bytes (IsBytes-rest b bytes h)) refl
 
 four : (bytes : List ℕ) → IsBytes bytes → 4 ≤ length bytes → bytes_of 4 (number (take 4 bytes)) ≡ take 4 bytes
 four bytes is long =

@@ -1,10 +1,9 @@
 -- Bytes begin with a section or are refused: read from the front.
-use Rattle.std.proofs.Common.{◌≡◌, ℕ, zero, suc, ◌+◌, ◌-◌, ◌^◌, ◌<◌, ◌≤◌, ◌⊎◌, inl, inr, Bool, true, false, All, List, [], ◌∷◌, ◌++◌, length, take, drop, Option, Some, None, refl, sym, ap, subst, ◌∙◌, arith}
-use Rattle.std.proofs.lemmas.List.{length-take, get_or-drop, get_or_past}
-use Rattle.std.proofs.lemmas.List.Elements.{All-get_or}
-use Rattle.std.proofs.lemmas.Bool.{cases_lt}
-use native.Mathlib.Numerals.{unary_clauses}
+use Rattle.std.proofs.Common.{◌≡◌, ℕ, zero, suc, ◌+◌, ◌-◌, ◌^◌, ◌<◌, ◌≤◌, ◌⊎◌, inl, inr, Bool, true, false, List, [], ◌∷◌, ◌++◌, length, take, drop, Option, Some, None, refl, sym, ap, subst, ◌∙◌, arith}
+use Rattle.std.proofs.lemmas.List.{length-take}
+use Rattle.cu_base.specs.Bytes.{IsBytes}
 use Rattle.cu_base.specs.Fields.{number}
+use Rattle.cu_base.proofs.Fields.{IsBytes-drop, IsBytes-rest, IsBytes-take, number-below}
 use Rattle.cu_base.specs.Refusals.{first_refusal}
 use Rattle.dep_code.specs.declared.limits.TheConstants.{MAX_SECTION_BYTES}
 use Rattle.dep_code.specs.declared.op.Op.{Op}
@@ -14,18 +13,14 @@ use Rattle.dep_code.specs.Reading.{EndsAt}
 use Rattle.dep_code.specs.Refusals.{op_size, text_size, place_rows, section_rows, IsFront, IsRefused}
 use Rattle.dep_code.specs.Sections.{StandsAtFront, ops_of, placed}
 use Rattle.dep_code.proofs.Apart.{read_front}
-use Rattle.dep_code.proofs.Bytes.{IsBytes, IsBytes-rest, IsBytes-take, version_op, declare_op, text_op, text_nonzero}
+use Rattle.dep_code.proofs.Bytes.{version_op, declare_op, text_op, text_nonzero}
 use Rattle.dep_code.proofs.Fronts.{Keeps, keeps, not_longer, front_next, place_more, places_more, ended, there_is}
 use Rattle.dep_code.proofs.Wholes.{ends_wrong, front_section}
-
-number_below : (bytes : List ℕ) → IsBytes bytes → number bytes < 256 ^ length bytes
-number_below [] h = omega arith
-number_below (b ∷ bytes) h = simp unary_clauses (omega (arith, h 0, number_below bytes (IsBytes-rest b bytes h)))
 
 four_below : (bytes : List ℕ) → IsBytes bytes → 4 ≤ length bytes → number (take 4 bytes) < 2 ^ 32
 four_below bytes is long =
     let size : length (take 4 bytes) ≡ 4 = omega (arith, length-take 4 bytes) in
-    subst (λ (n : ℕ). number (take 4 bytes) < 256 ^ n) size (number_below (take 4 bytes) (IsBytes-take 4 bytes is))
+    subst (λ (n : ℕ). number (take 4 bytes) < 256 ^ n) size (number-below (take 4 bytes) (IsBytes-take 4 bytes is))
 
 -- the operation that is read at the front
 pub record IsRead (rest : List ℕ) (op : Op) : Type 0 where
@@ -85,9 +80,6 @@ op_decided bytes items at op false e h none read next =
       places = places_more items new at op refl h.place h.places;
     })
 
-IsBytes-drop : (n : ℕ) (bytes : List ℕ) → IsBytes bytes → IsBytes (drop n bytes)
-IsBytes-drop n bytes h i = rw get_or-drop (h (n + i))
-
 row_decided : (bytes : List ℕ) (items : List (ℕ × Op)) (at : ℕ) (r : Option (ℕ × DepWhy)) → first_refusal (place_rows (drop at bytes) at) ≡ r → SoFar bytes items at → (first_refusal (place_rows (drop at bytes) at) ≡ None → Decided bytes) → Decided bytes
 row_decided bytes items at None e h next = next e
 row_decided bytes items at (Some r) e h next = inr (r.0, r.1, inl (record { ops = ops_of items; rest = drop at bytes; front = h.front; refused = ap (λ (n : ℕ). first_refusal (place_rows (drop at bytes) n)) (sym h.place) ∙ e }))
@@ -107,10 +99,3 @@ decided (suc n) bytes items at is fuel h =
 pub section_or_refused_lemma : (bytes : List ℕ) → IsBytes bytes → Decided bytes
 section_or_refused_lemma bytes is =
     decided (suc MAX_SECTION_BYTES) bytes [] 0 is (omega arith) (record { front = record { kept = record { forms = tt; no_end = refl; declare = refl }; within = omega arith; whole = refl }; place = refl; places = refl })
-
-pub are_bytes : (bytes : List ℕ) → All (λ b. b < 256) bytes → IsBytes bytes
-are_bytes bytes all i =
-    elim (cases_lt i (length bytes)) [
-      | inl lt ↦ All-get_or (λ b. b < 256) bytes i 0 lt all
-      | inr le ↦ rw (get_or_past bytes i 0 le) (omega arith)
-    ]

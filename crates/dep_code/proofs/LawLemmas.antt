@@ -21,7 +21,7 @@ use Rattle.dep_code.proofs.Entries.{after_tree, after_kinds, kinds_of}
 use Rattle.dep_code.proofs.Fronts.{bytes_push, length_more}
 use Rattle.dep_code.proofs.Loops.{entries_append, first_some}
 use Rattle.dep_code.proofs.Same.{same_front, from_start, row_stops, end_stops}
-use Rattle.dep_code.proofs.Types.{none_in}
+use Rattle.cu_base.proofs.Rows.{no_row_in}
 
 abbrev pub told : ℕ → DepWhy → Option (ℕ × DepWhy)
 told at why = Some (at, why)
@@ -100,7 +100,7 @@ pub section_keeps : (bytes : List ℕ) (ops : List Op) (t : Tree) → IsSection 
 section_keeps bytes ops t h =
     let e = after_tree t ops h.reads in
     let one = tree_typed ops t h.reads in
-    let types : first_refusal (type_rows ops) ≡ None = none_in (type_row ops) _ 0 (length ops) (λ j low high. ap not (front_typed ops t (j + 1) e)) ∙ rw one refl in
+    let types : first_refusal (type_rows ops) ≡ None = no_row_in (type_row ops) _ 0 (length ops) (λ j low high. ap not (front_typed ops t (j + 1) e)) ∙ rw one refl in
     rw (h.declared, types) refl
 
 -- the laws

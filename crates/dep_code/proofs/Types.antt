@@ -1,10 +1,9 @@
 -- The stack of kinds, and the rows of types.
-use Rattle.std.proofs.Common.{◌≡◌, ℕ, zero, suc, ◌+◌, ◌-◌, ◌<◌, ◌≤◌, true, false, not, cond, List, [], ◌∷◌, ◌++◌, length, get_or, take, map, Option, Some, None, refl, sym, ap, ◌∙◌, arith, add-zero, zero-add, below_more, inl, inr}
-use Rattle.std.specs.List.{range_with_len}
+use Rattle.std.proofs.Common.{◌≡◌, ℕ, zero, suc, ◌+◌, ◌-◌, ◌<◌, true, false, not, cond, List, [], ◌∷◌, ◌++◌, length, get_or, take, Option, Some, None, refl, sym, ap, ◌∙◌, arith, add-zero, zero-add, below_more}
 use Rattle.std.specs.Option.{option_and_then, is_some}
-use Rattle.std.proofs.lemmas.Bool.{cases_eq}
 use Rattle.std.proofs.lemmas.List.{take_more, get_or-map, length-append, take_all}
-use Rattle.cu_base.specs.Refusals.{Row, first_refusal}
+use Rattle.cu_base.specs.Refusals.{first_refusal}
+use Rattle.cu_base.proofs.Rows.{no_row_in, row_in}
 use Rattle.dep_code.specs.declared.kind.Kind.{Kind}
 use Rattle.dep_code.specs.declared.kind.Kind.TheVariants.{Number, Truth}
 use Rattle.dep_code.specs.declared.op.Op.{Op}
@@ -18,21 +17,6 @@ pub no_truth : (stack : List Kind) → without (Truth ∷ []) stack ≡ None →
 no_truth [] e = refl
 no_truth (Number ∷ stack) e = refl
 no_truth (Truth ∷ stack) e = absurd cc
-
--- tables over a range, and what follows them
-pub none_in : {W : Type 0} (f : ℕ → Row W) (tail : List (Row W)) (a n : ℕ) → ((j : ℕ) → a ≤ j → j < a + n → (f j).holds ≡ false) → first_refusal (map f (range_with_len a n) ++ tail) ≡ first_refusal tail
-none_in f tail a zero h = refl
-none_in f tail a (suc n) h = rw (h a (omega arith) (omega arith)) (none_in f tail (a + 1) n (λ j low high. h j (omega arith) (omega arith)))
-
-pub some_in : {W : Type 0} (f : ℕ → Row W) (tail : List (Row W)) (a n k : ℕ) → ((j : ℕ) → a ≤ j → j < k → (f j).holds ≡ false) → a ≤ k → k < a + n → (f k).holds ≡ true → first_refusal (map f (range_with_len a n) ++ tail) ≡ Some ((f k).at, (f k).why)
-some_in f tail a zero k h low high e = absurd (omega arith)
-some_in f tail a (suc n) k h low high e =
-    elim (cases_eq a k) [
-      | inl same ↦ rw same (rw e refl)
-      | inr other ↦
-          let behind : a + 1 ≤ k = omega arith in
-          rw (h a (omega arith) (omega arith)) (some_in f tail (a + 1) n k (λ j l u. h j (omega arith) u) behind (omega arith) e)
-    ]
 
 -- one operation more
 some_again : {A : Type 0} (o : Option A) → option_and_then (λ x. Some x) o ≡ o
@@ -85,14 +69,14 @@ bad_types items k item stack places h before step typed =
     let ops = ops_of items in
     let long : length ops ≡ length items = ops_length items in
     let wrong : not (is_typed (take (k + 1) ops)) ≡ true = ap (λ (o : Option (List Kind)). not (is_some o)) (stack_more items k item stack None h before step) in
-    some_in (type_row ops) _ 0 (length ops) k (λ j low high. ap not (typed j high)) (omega arith) (omega (arith, h.there)) wrong
+    row_in (type_row ops) _ 0 (length ops) k (λ j low high. ap not (typed j high)) (omega arith) (omega (arith, h.there)) wrong
     ∙ ap (λ (n : ℕ). Some (n, BadTypes)) (sym (place_is items k item places h))
 
 all_typed : (items : List (ℕ × Op)) (k : ℕ) → k ≡ length items → ((j : ℕ) → j < k → is_typed (take (j + 1) (ops_of items)) ≡ true) → first_refusal (type_rows (ops_of items)) ≡ cond (not (leaves_one_truth (ops_of items))) (Some (place_of (ops_of items) (length (ops_of items) - 1), NotOneBool)) None
 all_typed items k all typed =
     let ops = ops_of items in
     let long : length ops ≡ length items = ops_length items in
-    none_in (type_row ops) _ 0 (length ops) (λ j low high. ap not (typed j (omega arith)))
+    no_row_in (type_row ops) _ 0 (length ops) (λ j low high. ap not (typed j (omega arith)))
 
 left_is : (items : List (ℕ × Op)) (k : ℕ) (stack : List Kind) → k ≡ length items → stack_after [] (take k (ops_of items)) ≡ Some stack → leaves_one_truth (ops_of items) ≡ is_one_truth (Some stack)
 left_is items k stack all e =

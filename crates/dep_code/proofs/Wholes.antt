@@ -3,7 +3,8 @@ use Rattle.std.proofs.Common.{◌≡◌, ℕ, ◌<◌, Bool, true, false, not, c
 use Rattle.std.proofs.lemmas.List.{take-append-drop, length-append, length-take}
 use Rattle.std.specs.List.{range_with_len, list_all}
 use Rattle.std.proofs.lemmas.List.Folds.{list_all-map}
-use Rattle.cu_base.specs.Refusals.{Row, first_refusal}
+use Rattle.cu_base.specs.Refusals.{first_refusal}
+use Rattle.cu_base.proofs.Rows.{first-parts}
 use Rattle.dep_code.specs.declared.op.Op.{Op}
 use Rattle.dep_code.specs.declared.op.Op.TheVariants.{End}
 use Rattle.dep_code.specs.declared.fault.DepRefusal.{DepRefusal}
@@ -54,20 +55,12 @@ rows_wrong ops e = rw e refl
 pub rows_types : (ops : List Op) (r : Result (Unit {0}) DepRefusal) → is_declared ops ≡ true → Answers r (first_refusal (type_rows ops)) → Answers r (first_refusal (section_rows ops))
 rows_types ops r e h = rw e h
 
-behind_none : {W : Type 0} (holds : Bool) (here : ℕ × W) (both ys : Option (ℕ × W)) → cond holds (Some here) both ≡ None → (both ≡ None → ys ≡ None) → ys ≡ None
-behind_none true here both ys e h = absurd cc
-behind_none false here both ys e h = h e
-
-last_none : {W : Type 0} (xs ys : List (Row W)) → first_refusal (xs ++ ys) ≡ None → first_refusal ys ≡ None
-last_none [] ys e = e
-last_none (x ∷ xs) ys e = behind_none x.holds (x.at, x.why) (first_refusal (xs ++ ys)) (first_refusal ys) e (last_none xs ys)
-
 not_not : {W : Type 0} (b : Bool) (here : ℕ × W) → cond (not b) (Some here) None ≡ None → b ≡ true
 not_not true here e = refl
 not_not false here e = absurd cc
 
 is_one : (ops : List Op) → first_refusal (type_rows ops) ≡ None → leaves_one_truth ops ≡ true
-is_one ops e = not_not (leaves_one_truth ops) _ (last_none (map (type_row ops) (range_with_len 0 (length ops))) _ e)
+is_one ops e = not_not (leaves_one_truth ops) _ (first-parts (map (type_row ops) (range_with_len 0 (length ops))) _ e).1
 
 both_kept : {W : Type 0} (b : Bool) (here : ℕ × W) (rest : Option (ℕ × W)) → cond (not b) (Some here) rest ≡ None → (b ≡ true) × (rest ≡ None)
 both_kept true here rest e = (refl, e)

@@ -2,7 +2,7 @@
 -- none does, by what the operations up to END say together (UEFI 2.10, 23.2).
 use Rattle.std.specs.Prelude.{◌≡◌, ℕ, ◌+◌, ◌-◌, ◌≤◌, ◌⊎◌, ◌||◌, ◌&&◌, not, List, [], ◌∷◌, ◌++◌, length, take, drop, map, slice_index, nat_lt, ◌==◌, if◌then◌else◌, Option, None, Some, Result, Ok, Err}
 use Rattle.std.specs.List.{range_with_len, prefix_len}
-use Rattle.cu_base.specs.Refusals.{Row, row, first_refusal}
+use Rattle.cu_base.specs.Refusals.{Row, row_at, first_refusal, AnswersBy}
 use Rattle.dep_code.specs.declared.limits.TheConstants.{MAX_SECTION_BYTES}
 use Rattle.dep_code.specs.declared.op.Op.{Op}
 use Rattle.dep_code.specs.declared.op.Op.TheVariants.{End}
@@ -33,14 +33,14 @@ op_size rest =
     else 1
 
 -- the rows of the operation at a place, of which this is the rest of the bytes from there on
-abbrev pub place_rows : List ℕ → ℕ → List (Row DepWhy)
+abbrev pub place_rows : List ℕ → ℕ → List (Row (ℕ × DepWhy))
 place_rows rest at =
-    row (at == MAX_SECTION_BYTES) at TooLong
-    ∷ row (length rest == 0) at NoEnd
-    ∷ row (nat_lt 0x0E (first_byte rest)) at BadOpcode
-    ∷ row (nat_lt (length rest) (op_size rest)) at CutOperand
-    ∷ row (nat_lt MAX_SECTION_BYTES (at + op_size rest)) at TooLong
-    ∷ row ((first_byte rest == 0x0E) && nat_lt 0 at) at LateDeclare
+    row_at (at == MAX_SECTION_BYTES) at TooLong
+    ∷ row_at (length rest == 0) at NoEnd
+    ∷ row_at (nat_lt 0x0E (first_byte rest)) at BadOpcode
+    ∷ row_at (nat_lt (length rest) (op_size rest)) at CutOperand
+    ∷ row_at (nat_lt MAX_SECTION_BYTES (at + op_size rest)) at TooLong
+    ∷ row_at ((first_byte rest == 0x0E) && nat_lt 0 at) at LateDeclare
     ∷ []
 
 -- the bytes are operations before an END, within the limit, and this rest behind them
@@ -63,18 +63,18 @@ abbrev pub place_of : List Op → ℕ → ℕ
 place_of ops k = length (section_bytes (take k ops))
 
 -- the row of the types of operation k
-abbrev pub type_row : List Op → ℕ → Row DepWhy
-type_row ops k = row (not (is_typed (take (k + 1) ops))) (place_of ops k) BadTypes
+abbrev pub type_row : List Op → ℕ → Row (ℕ × DepWhy)
+type_row ops k = row_at (not (is_typed (take (k + 1) ops))) (place_of ops k) BadTypes
 
 -- the rows of the types of operations up to END, from the front, and of what is left at END
-abbrev pub type_rows : List Op → List (Row DepWhy)
+abbrev pub type_rows : List Op → List (Row (ℕ × DepWhy))
 type_rows ops =
     map (type_row ops) (range_with_len 0 (length ops))
-    ++ row (not (leaves_one_truth ops)) (place_of ops (length ops - 1)) NotOneBool ∷ []
+    ++ row_at (not (leaves_one_truth ops)) (place_of ops (length ops - 1)) NotOneBool ∷ []
 
 -- the rows of operations up to END: the declared length, then the types
-abbrev pub section_rows : List Op → List (Row DepWhy)
-section_rows ops = row (not (is_declared ops)) 1 WrongDeclare ∷ type_rows ops
+abbrev pub section_rows : List Op → List (Row (ℕ × DepWhy))
+section_rows ops = row_at (not (is_declared ops)) 1 WrongDeclare ∷ type_rows ops
 
 -- the operations up to END keep the rules one by one, and together they do not
 pub record EndsWrong (bytes : List ℕ) (at : ℕ) (why : DepWhy) : Type 0 where
@@ -101,8 +101,11 @@ IsFound items size (Ok x) = (x.0 ≡ items) × (x.1 ≡ size)
 IsFound items size (Err (Dep fault)) = ⊥
 IsFound items size (Err Memory) = Unit {0}
 
+-- the place and the cause that a refusal tells; want of memory tells none
+abbrev pub told : DepRefusal → Option (ℕ × DepWhy)
+told (Dep fault) = Some (fault.at, fault.why)
+told Memory = None
+
 -- the answer is Ok where nothing is refused, or this refusal, or want of memory, which is free
 abbrev pub Answers : {X : Type 0} → Result X DepRefusal → Option (ℕ × DepWhy) → Type 0
-Answers (Ok x) refused = refused ≡ None
-Answers (Err (Dep fault)) refused = refused ≡ Some (fault.at, fault.why)
-Answers (Err Memory) refused = Unit {0}
+Answers result refused = AnswersBy told result refused

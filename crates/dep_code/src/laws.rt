@@ -1,7 +1,8 @@
 //! The laws of sections: bytes begin with one section, or are refused at one place for one cause, and never both.
 //! Operations that are typed on the stack and leave one truth value are the postfix form of one tree.
 
-ghost use Rattle.std.specs.Prelude.{◌≡◌, ◌<◌, ◌⊎◌, ℕ, List, ◌++◌, All, IsTrue};
+ghost use Rattle.std.specs.Prelude.{◌≡◌, ◌<◌, ◌⊎◌, ℕ, List, ◌++◌, IsTrue};
+ghost use Rattle.cu_base.specs.Bytes.{IsBytes};
 ghost use Rattle.dep_code.specs.declared.fault.DepWhy.{DepWhy};
 ghost use Rattle.dep_code.specs.declared.op.Op.{Op};
 ghost use Rattle.dep_code.specs.Refusals.{IsRefused};
@@ -17,7 +18,7 @@ pub fn one_section()
 
 /// Bytes begin with a section or are refused.
 pub fn section_or_refused()
-    ensures { (bytes : List ℕ) → All (λ b. b < 256) bytes → ((items : List (ℕ × Op)) × (size : ℕ) × StandsAtFront bytes items size) ⊎ ((at : ℕ) × (why : DepWhy) × IsRefused bytes at why) }
+    ensures { (bytes : List ℕ) → IsBytes bytes → ((items : List (ℕ × Op)) × (size : ℕ) × StandsAtFront bytes items size) ⊎ ((at : ℕ) × (why : DepWhy) × IsRefused bytes at why) }
 {}
 
 /// Bytes that begin with a section are not refused.

@@ -4,21 +4,21 @@ use Rattle.std.proofs.lemmas.Bool.{ltb-false, le-ltb, or_parts, or_from, eqb-tru
 use Rattle.cu_base.specs.Fields.{field, number_at, bytes_of}
 use Rattle.cu_base.specs.Refusals.{first_refusal}
 use Rattle.cu_base.specs.declared.limits.TheConstants.{MAX_CAPSULE_BYTES}
-use Rattle.fmp_headers.specs.Bytes.{IsBytes}
+use Rattle.cu_base.specs.Bytes.{IsBytes}
 use Rattle.fmp_headers.specs.CapsuleHeader.{capsule_header, capsule_header_rows, capsule_header_fields, capsule_header_bytes, header_or, IsCapsuleHeader}
 use Rattle.fmp_headers.specs.FmpHeader.{fmp_header, fmp_header_rows, fmp_header_fields, fmp_header_bytes, IsFmpHeader}
 use Rattle.fmp_headers.specs.declared.capsule.CapsuleHeader.{CapsuleHeader}
 use Rattle.fmp_headers.specs.declared.fmp.FmpHeader.{FmpHeader}
 use Rattle.fmp_headers.specs.declared.faults.HeaderFault.{HeaderFault}
-use Rattle.fmp_headers.proofs.Rows.{passed, none_refused}
-use Rattle.fmp_headers.proofs.Fields.{length-bytes_of, length-field, number_at_in, field_in, number_at-below, next_number}
+use Rattle.cu_base.proofs.Rows.{passed, none_refused}
+use Rattle.cu_base.proofs.Fields.{length-bytes_of, length-field, number_at_in, field_in, number_at-below, next_number}
 
-pub header_or_ok : {H : Type 0} (refusal : Option (ℕ × HeaderFault)) (x h : H) → header_or refusal x ≡ Ok h → (refusal ≡ None) × (x ≡ h)
+pub header_or_ok : {H : Type 0} (refusal : Option HeaderFault) (x h : H) → header_or refusal x ≡ Ok h → (refusal ≡ None) × (x ≡ h)
 header_or_ok None x h e = (refl, cc)
 header_or_ok (Some r) x h e = absurd cc
 
 -- a table of which no row holds gives the fields
-pub header_given : {H : Type 0} (refusal : Option (ℕ × HeaderFault)) (x h : H) → refusal ≡ None → x ≡ h → header_or refusal x ≡ Ok h
+pub header_given : {H : Type 0} (refusal : Option HeaderFault) (x h : H) → refusal ≡ None → x ≡ h → header_or refusal x ≡ Ok h
 header_given None x h none same = ap Ok same
 header_given (Some r) x h none same = absurd cc
 

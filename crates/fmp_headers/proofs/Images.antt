@@ -4,12 +4,12 @@ use Rattle.std.proofs.lemmas.Bool.{ltb-false, le-ltb, or_cases, both_ways, and_p
 use Rattle.std.proofs.lemmas.List.{append-nil, get_or_at}
 use Rattle.cu_base.specs.Fields.{field, number_at, bytes_of}
 use Rattle.cu_base.specs.Refusals.{first_refusal}
-use Rattle.fmp_headers.specs.Bytes.{IsBytes}
+use Rattle.cu_base.specs.Bytes.{IsBytes}
 use Rattle.fmp_headers.specs.ImageHeader.{image_header, image_header_rows, image_header_fields, image_header_bytes, image_header_size, image_version, is_image_version, keeps_version_rules, IsImageHeader}
 use Rattle.fmp_headers.specs.declared.image.ImageHeader.{ImageHeader}
-use Rattle.fmp_headers.proofs.Rows.{passed, none_refused}
+use Rattle.cu_base.proofs.Rows.{passed, none_refused}
 use Rattle.fmp_headers.proofs.Headers.{header_or_ok, header_given}
-use Rattle.fmp_headers.proofs.Fields.{length-bytes_of, length-field, number_at_in, field_in, number_at-below, next_number, next_field, next_byte}
+use Rattle.cu_base.proofs.Fields.{length-bytes_of, length-field, number_at_in, field_in, number_at-below, next_number, next_field, next_byte}
 
 -- the three versions
 pub versions : (v : ℕ) → is_image_version v ≡ true → (v ≡ 1) ⊎ ((v ≡ 2) ⊎ (v ≡ 3))

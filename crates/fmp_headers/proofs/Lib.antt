@@ -1,4 +1,2 @@
-pub mod Fields
-pub mod Rows
 pub mod Headers
 pub mod Images

@@ -31,9 +31,9 @@ is_above_limit bytes = nat_lt MAX_CAPSULE_BYTES (image_size bytes)
 -- when a capsule header is refused, in order
 abbrev pub capsule_header_rows : List ℕ → List (Row HeaderFault)
 capsule_header_rows bytes =
-    row (is_short bytes) 0 Short
-    ∷ row (has_bad_header_size bytes) 16 BadHeaderSize
-    ∷ row (is_above_limit bytes) 24 BadImageSize
+    row (is_short bytes) Short
+    ∷ row (has_bad_header_size bytes) BadHeaderSize
+    ∷ row (is_above_limit bytes) BadImageSize
     ∷ []
 
 -- the fields at their places
@@ -46,9 +46,9 @@ capsule_header_fields bytes = record {
 }
 
 -- the header, or the cause where one is refused
-abbrev pub header_or : {H : Type 0} → Option (ℕ × HeaderFault) → H → Result H HeaderFault
+abbrev pub header_or : {H : Type 0} → Option HeaderFault → H → Result H HeaderFault
 header_or None header = Ok header
-header_or (Some refusal) header = Err refusal.1
+header_or (Some fault) header = Err fault
 
 -- the header, or the cause of the first row that holds
 abbrev pub capsule_header : List ℕ → Result CapsuleHeader HeaderFault

@@ -11,8 +11,8 @@ use Rattle.fmp_headers.specs.declared.faults.HeaderFault.TheVariants.{Short, Bad
 -- when an FMP header is refused: below 8 bytes, then where Version is not 1
 abbrev pub fmp_header_rows : List ℕ → List (Row HeaderFault)
 fmp_header_rows bytes =
-    row (nat_lt (length bytes) 8) 0 Short
-    ∷ row (not (number_at bytes 0 4 == 1)) 0 BadFmpVersion
+    row (nat_lt (length bytes) 8) Short
+    ∷ row (not (number_at bytes 0 4 == 1)) BadFmpVersion
     ∷ []
 
 -- the fields at their places

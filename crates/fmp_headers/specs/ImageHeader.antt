@@ -25,13 +25,20 @@ image_header_size version = if version == 1 then 32 else if version == 2 then 40
 -- when an image header is refused: below 32 bytes, then an unknown version, then below the bytes of that version
 abbrev pub image_header_rows : List ℕ → List (Row HeaderFault)
 image_header_rows bytes =
-    row (nat_lt (length bytes) 32) 0 Short
-    ∷ row (not (is_image_version (image_version bytes))) 0 BadImageVersion
-    ∷ row (nat_lt (length bytes) (image_header_size (image_version bytes))) 0 Short
+    row (nat_lt (length bytes) 32) Short
+    ∷ row (not (is_image_version (image_version bytes))) BadImageVersion
+    ∷ row (nat_lt (length bytes) (image_header_size (image_version bytes))) Short
     ∷ []
 
--- The fields at their places. Without UpdateHardwareInstance the instance is 0, and without
--- ImageCapsuleSupport the image has authentication data alone, which is a support of 1.
+-- UpdateHardwareInstance, which a header of version 1 has not: it is 0
+abbrev pub instance_at : ℕ → List ℕ → ℕ
+instance_at version bytes = if version == 1 then 0 else number_at bytes 32 8
+
+-- ImageCapsuleSupport, which a header of version 1 or 2 has not: it is 1, authentication data alone
+abbrev pub support_at : ℕ → List ℕ → ℕ
+support_at version bytes = if version == 3 then number_at bytes 40 8 else 1
+
+-- the fields at their places
 abbrev pub image_header_fields : List ℕ → ImageHeader
 image_header_fields bytes = record {
   version = image_version bytes;
@@ -40,8 +47,8 @@ image_header_fields bytes = record {
   reserved = field bytes 21 3;
   image_size = number_at bytes 24 4;
   vendor_size = number_at bytes 28 4;
-  instance = if image_version bytes == 1 then 0 else number_at bytes 32 8;
-  support = if image_version bytes == 3 then number_at bytes 40 8 else 1;
+  instance = instance_at (image_version bytes) bytes;
+  support = support_at (image_version bytes) bytes;
 }
 
 -- the header, or the cause of the first row that holds

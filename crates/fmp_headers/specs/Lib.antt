@@ -1,4 +1,3 @@
-pub mod Bytes
 pub mod CapsuleHeader
 pub mod FmpHeader
 pub mod ImageHeader

@@ -2,12 +2,23 @@ ghost use Rattle.std.specs.Prelude.{◌≡◌, ◌++◌, OnOk, OnErr};
 ghost use Rattle.fmp_headers.specs.CapsuleHeader.{capsule_header, capsule_header_bytes};
 
 use crate::HeaderFault;
-use crate::layout::{bytes_of_u32, put};
-use crate::places::{guid_at, u32_at};
-use cu_base::{Blob, Guid, MAX_CAPSULE_BYTES, NoMemory};
+use crate::layout::put;
+use cu_base::{Blob, Guid, MAX_CAPSULE_BYTES, NoMemory, bytes_of_u32, guid_at, u32_at};
 
 /// The bytes of the fields of a capsule header. HeaderSize is at least this.
 pub const CAPSULE_HEADER_BYTES: u32 = 28;
+
+/// The place of CapsuleGuid.
+const CAPSULE_GUID_AT: usize = 0;
+
+/// The place of HeaderSize.
+pub const HEADER_SIZE_AT: usize = 16;
+
+/// The place of Flags.
+const FLAGS_AT: usize = 20;
+
+/// The place of CapsuleImageSize.
+pub const CAPSULE_IMAGE_SIZE_AT: usize = 24;
 
 /// The capsule header, EFI_CAPSULE_HEADER (UEFI 2.10, 8.5.3).
 #[derive(Clone, Copy, Debug, PartialEq, Eq)]
@@ -28,8 +39,8 @@ impl CapsuleHeader {
         if bytes.len() < CAPSULE_HEADER_BYTES as usize {
             return Err(HeaderFault::Short);
         }
-        let header_size = u32_at(bytes, 16);
-        let image_size = u32_at(bytes, 24);
+        let header_size = u32_at(bytes, HEADER_SIZE_AT);
+        let image_size = u32_at(bytes, CAPSULE_IMAGE_SIZE_AT);
         if header_size < CAPSULE_HEADER_BYTES || image_size < header_size {
             return Err(HeaderFault::BadHeaderSize);
         }
@@ -37,30 +48,34 @@ impl CapsuleHeader {
             return Err(HeaderFault::BadImageSize);
         }
         Ok(CapsuleHeader {
-            guid: guid_at(bytes, 0),
+            guid: guid_at(bytes, CAPSULE_GUID_AT),
             header_size,
-            flags: u32_at(bytes, 20),
+            flags: u32_at(bytes, FLAGS_AT),
             image_size,
         })
     }
 
-    /// Appends the header.
+    /// Appends the 28 bytes of the header. NoMemory leaves the blob as it was.
     pub fn write_into(&self, out: &mut Blob) -> Result<(), NoMemory>
         ensures ok { OnOk result (out.new ≡ out.old ++ capsule_header_bytes self.now) }
         ensures err { OnErr result (out.new ≡ out.old) }
     {
-        out.push_slice(&self.to_bytes())?;
-        Ok(())
+        out.push_slice(&self.to_bytes())
     }
 
+    /// The 28 bytes of the header: CapsuleGuid, HeaderSize, Flags and CapsuleImageSize, little-endian.
     fn to_bytes(&self) -> [u8; 28]
         ensures { result ≡ capsule_header_bytes self.now }
     {
         let mut bytes = [0; 28];
-        put(&mut bytes, 0, &self.guid.bytes);
-        put(&mut bytes, 16, &bytes_of_u32(self.header_size));
-        put(&mut bytes, 20, &bytes_of_u32(self.flags));
-        put(&mut bytes, 24, &bytes_of_u32(self.image_size));
+        put(&mut bytes, CAPSULE_GUID_AT, &self.guid.bytes);
+        put(&mut bytes, HEADER_SIZE_AT, &bytes_of_u32(self.header_size));
+        put(&mut bytes, FLAGS_AT, &bytes_of_u32(self.flags));
+        put(
+            &mut bytes,
+            CAPSULE_IMAGE_SIZE_AT,
+            &bytes_of_u32(self.image_size),
+        );
         bytes
     }
 }

@@ -1,14 +1,42 @@
 ghost use Rattle.std.specs.Prelude.{◌≡◌, ◌≤◌, ◌==◌, ◌++◌, length, take, if◌then◌else◌, IsTrue, OnOk, OnErr};
 ghost use Rattle.cu_base.specs.Fields.{number_at};
-ghost use Rattle.fmp_headers.specs.ImageHeader.{image_header, image_header_fields, image_header_size, image_version, is_image_version, image_header_bytes, keeps_version_rules};
+ghost use Rattle.fmp_headers.specs.ImageHeader.{image_header, image_header_bytes, image_header_fields, image_header_size, image_version, instance_at, is_image_version, keeps_version_rules, support_at};
 
 use crate::HeaderFault;
-use crate::layout::{bytes_of_u32, bytes_of_u64, put};
-use crate::places::{guid_at, three_at, u32_at, u64_at};
-use cu_base::{Blob, Guid, NoMemory};
+use crate::layout::put;
+use cu_base::{
+    Blob, Guid, NoMemory, bytes_of_u32, bytes_of_u64, guid_at, three_at, u32_at, u64_at,
+};
 
 /// The bytes of an image header of version 1. Every version has at least these.
 pub const IMAGE_HEADER_BYTES: u32 = 32;
+
+/// The most bytes of an image header, those of version 3.
+const LONGEST_HEADER_BYTES: usize = 48;
+
+/// The place of Version.
+const VERSION_AT: usize = 0;
+
+/// The place of UpdateImageTypeId.
+const TYPE_ID_AT: usize = 4;
+
+/// The place of UpdateImageIndex.
+const INDEX_AT: usize = 20;
+
+/// The place of the 3 reserved bytes.
+const RESERVED_AT: usize = 21;
+
+/// The place of UpdateImageSize.
+pub const IMAGE_SIZE_AT: usize = 24;
+
+/// The place of UpdateVendorCodeSize.
+const VENDOR_SIZE_AT: usize = 28;
+
+/// The place of UpdateHardwareInstance, from version 2 on.
+const INSTANCE_AT: usize = 32;
+
+/// The place of ImageCapsuleSupport, from version 3 on.
+const SUPPORT_AT: usize = 40;
 
 /// The header of an image item, EFI_FIRMWARE_MANAGEMENT_CAPSULE_IMAGE_HEADER (UEFI 2.10, 23.3.2).
 /// A header of version 1 has no UpdateHardwareInstance, and `instance` is 0. One of version 1 or 2
@@ -52,7 +80,7 @@ impl ImageHeader {
         if bytes.len() < IMAGE_HEADER_BYTES as usize {
             return Err(HeaderFault::Short);
         }
-        let version = u32_at(bytes, 0);
+        let version = u32_at(bytes, VERSION_AT);
         if !is_image_version(version) {
             return Err(HeaderFault::BadImageVersion);
         }
@@ -72,7 +100,7 @@ impl ImageHeader {
             && (self.version == 3 || self.support == 1)
     }
 
-    /// The bytes of the header.
+    /// How many bytes the header takes.
     pub fn byte_length(&self) -> u32
         requires { IsTrue (keeps_version_rules self.now) }
         ensures { result ≡ length (image_header_bytes self.now) }
@@ -82,30 +110,30 @@ impl ImageHeader {
         image_header_size(self.version)
     }
 
-    /// Appends the header of its version.
+    /// Appends the bytes of the header, as many as its version has. NoMemory leaves the blob as it was.
     pub fn write_into(&self, out: &mut Blob) -> Result<(), NoMemory>
         requires { IsTrue (keeps_version_rules self.now) }
         ensures ok { OnOk result (out.new ≡ out.old ++ image_header_bytes self.now) }
         ensures err { OnErr result (out.new ≡ out.old) }
     {
         let bytes = self.to_bytes();
-        out.push_slice(&bytes[..image_header_size(self.version) as usize])?;
-        Ok(())
+        out.push_slice(&bytes[..image_header_size(self.version) as usize])
     }
 
-    fn to_bytes(&self) -> [u8; 48]
+    /// The bytes of a header of version 3. One of another version is their front.
+    fn to_bytes(&self) -> [u8; LONGEST_HEADER_BYTES]
         requires { IsTrue (keeps_version_rules self.now) }
         ensures { take (image_header_size self.now.version) result ≡ image_header_bytes self.now }
     {
-        let mut bytes = [0; 48];
-        put(&mut bytes, 0, &bytes_of_u32(self.version));
-        put(&mut bytes, 4, &self.type_id.bytes);
-        put(&mut bytes, 20, &[self.index]);
-        put(&mut bytes, 21, &self.reserved);
-        put(&mut bytes, 24, &bytes_of_u32(self.image_size));
-        put(&mut bytes, 28, &bytes_of_u32(self.vendor_size));
-        put(&mut bytes, 32, &bytes_of_u64(self.instance));
-        put(&mut bytes, 40, &bytes_of_u64(self.support));
+        let mut bytes = [0; LONGEST_HEADER_BYTES];
+        put(&mut bytes, VERSION_AT, &bytes_of_u32(self.version));
+        put(&mut bytes, TYPE_ID_AT, &self.type_id.bytes);
+        put(&mut bytes, INDEX_AT, &[self.index]);
+        put(&mut bytes, RESERVED_AT, &self.reserved);
+        put(&mut bytes, IMAGE_SIZE_AT, &bytes_of_u32(self.image_size));
+        put(&mut bytes, VENDOR_SIZE_AT, &bytes_of_u32(self.vendor_size));
+        put(&mut bytes, INSTANCE_AT, &bytes_of_u64(self.instance));
+        put(&mut bytes, SUPPORT_AT, &bytes_of_u64(self.support));
         bytes
     }
 }
@@ -119,11 +147,11 @@ fn fields(bytes: &[u8], version: u32) -> ImageHeader
 {
     ImageHeader {
         version,
-        type_id: guid_at(bytes, 4),
-        index: bytes[20],
-        reserved: three_at(bytes, 21),
-        image_size: u32_at(bytes, 24),
-        vendor_size: u32_at(bytes, 28),
+        type_id: guid_at(bytes, TYPE_ID_AT),
+        index: bytes[INDEX_AT],
+        reserved: three_at(bytes, RESERVED_AT),
+        image_size: u32_at(bytes, IMAGE_SIZE_AT),
+        vendor_size: u32_at(bytes, VENDOR_SIZE_AT),
         instance: instance_of(bytes, version),
         support: support_of(bytes, version),
     }
@@ -132,16 +160,24 @@ fn fields(bytes: &[u8], version: u32) -> ImageHeader
 /// The hardware instance, which a header of version 1 does not have.
 fn instance_of(bytes: &[u8], version: u32) -> u64
     requires size { image_header_size version ≤ length bytes.now }
-    ensures { result ≡ (if version == 1 then 0 else number_at bytes.now 32 8) }
+    ensures { result ≡ instance_at version bytes.now }
 {
-    if version == 1 { 0 } else { u64_at(bytes, 32) }
+    if version == 1 {
+        0
+    } else {
+        u64_at(bytes, INSTANCE_AT)
+    }
 }
 
 /// The support bits, which a header of version 1 or 2 does not have.
 fn support_of(bytes: &[u8], version: u32) -> u64
     requires known { IsTrue (is_image_version version) }
     requires size { image_header_size version ≤ length bytes.now }
-    ensures { result ≡ (if version == 3 then number_at bytes.now 40 8 else 1) }
+    ensures { result ≡ support_at version bytes.now }
 {
-    if version == 3 { u64_at(bytes, 40) } else { 1 }
+    if version == 3 {
+        u64_at(bytes, SUPPORT_AT)
+    } else {
+        1
+    }
 }

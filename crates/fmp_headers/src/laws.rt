@@ -1,7 +1,7 @@
 //! What is written is read again, and what is read is written back.
 
 ghost use Rattle.std.specs.Prelude.{◌≡◌, ℕ, List, ◌++◌, take, Ok};
-ghost use Rattle.fmp_headers.specs.Bytes.{IsBytes};
+ghost use Rattle.cu_base.specs.Bytes.{IsBytes};
 ghost use Rattle.fmp_headers.specs.CapsuleHeader.{capsule_header, capsule_header_bytes, IsCapsuleHeader};
 ghost use Rattle.fmp_headers.specs.FmpHeader.{fmp_header, fmp_header_bytes, IsFmpHeader};
 ghost use Rattle.fmp_headers.specs.ImageHeader.{image_header, image_header_bytes, image_header_size, IsImageHeader};

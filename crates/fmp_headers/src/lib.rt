@@ -8,14 +8,14 @@ mod guids;
 mod image;
 mod laws;
 mod layout;
-mod places;
 #[cfg(test)]
 mod tests;
 
 pub use capsule::{CAPSULE_HEADER_BYTES, CapsuleHeader};
 pub use faults::HeaderFault;
-pub use fmp::{FMP_HEADER_BYTES, FMP_HEADER_VERSION, FmpHeader};
+pub use fmp::{DRIVER_COUNT_AT, FMP_HEADER_BYTES, FMP_HEADER_VERSION, FmpHeader, ITEM_COUNT_AT};
 pub use guids::FMP_CAPSULE_GUID;
-pub use image::{IMAGE_HEADER_BYTES, ImageHeader, image_header_size, is_image_version};
+pub use image::{
+    IMAGE_HEADER_BYTES, IMAGE_SIZE_AT, ImageHeader, image_header_size, is_image_version,
+};
 pub use laws::{capsule_header_law, fmp_header_law, image_header_law};
-pub use places::{guid_at, three_at, u16_at, u32_at, u64_at};

@@ -1,8 +1,8 @@
 -- An image has its parts or is refused.
-use Rattle.std.proofs.Common.{◌≡◌, ℕ, ◌+◌, ◌<◌, ◌⊎◌, inl, inr, All, Bool, true, false, List, Option, Some, None, refl}
+use Rattle.std.proofs.Common.{◌≡◌, ℕ, ◌+◌, ◌⊎◌, inl, inr, Bool, true, false, List, Option, Some, None, refl}
 use Rattle.cu_base.specs.Refusals.{first_refusal}
-use Rattle.fmp_headers.specs.Bytes.{IsBytes}
-use Rattle.fmp_headers.proofs.Fields.{IsBytes-drop}
+use Rattle.cu_base.specs.Bytes.{IsBytes}
+use Rattle.cu_base.proofs.Fields.{IsBytes-drop}
 use Rattle.dep_code.specs.declared.fault.DepWhy.{DepWhy}
 use Rattle.dep_code.specs.Refusals as dep
 use Rattle.dep_code.proofs.Decided as dep_proofs
@@ -15,9 +15,6 @@ use Rattle.image_parts.specs.Section.{TakesSection}
 use Rattle.image_parts.specs.Support.{has_section}
 use Rattle.image_parts.specs.Values.{PartsValue}
 use Rattle.image_parts.proofs.Spelled.{cut_is_parts}
-
-pub are_bytes : (bytes : List ℕ) → All (λ b. b < 256) bytes → IsBytes bytes
-are_bytes = dep_proofs.are_bytes
 
 -- a section that may be due is there or refused
 abbrev Taken : Bool → List ℕ → Type 0

@@ -1,6 +1,6 @@
 -- What an answer by places says of the parts as they are written.
 use Rattle.std.proofs.Common.{ℕ, List, Result, Ok, Err, IfOk, IfErr}
-use Rattle.fmp_headers.specs.Bytes.{IsBytes}
+use Rattle.cu_base.specs.Bytes.{IsBytes}
 use Rattle.image_parts.specs.declared.fault.PartRefusal.{PartRefusal}
 use Rattle.image_parts.specs.declared.fault.PartRefusal.TheVariants.{Part, Memory}
 use Rattle.image_parts.specs.declared.value.Parts.{Parts}

@@ -1,8 +1,9 @@
 -- The place of a refused section lies within its bytes.
-use Rattle.std.proofs.Common.{◌≡◌, ℕ, zero, suc, ◌+◌, ◌-◌, ◌≤◌, Bool, true, false, cond, List, [], ◌∷◌, ◌++◌, length, take, map, Option, Some, None, inl, inr, ap, subst, ◌∙◌, arith}
+use Rattle.std.proofs.Common.{◌≡◌, ℕ, zero, suc, ◌+◌, ◌-◌, ◌≤◌, List, [], ◌∷◌, ◌++◌, length, take, map, Some, inl, inr, ap, subst, ◌∙◌, arith}
 use Rattle.std.specs.List.{range_with_len, AllByRecursion}
 use Rattle.std.proofs.lemmas.List.{length-append}
 use Rattle.cu_base.specs.Refusals.{Row, first_refusal}
+use Rattle.cu_base.proofs.Rows.{of_each}
 use Rattle.dep_code.specs.declared.op.Op.{Op}
 use Rattle.dep_code.specs.declared.op.Op.TheVariants.{End}
 use Rattle.dep_code.specs.declared.fault.DepFault.{DepFault}
@@ -13,25 +14,20 @@ use Rattle.dep_code.specs.Operations.{op_bytes, section_bytes}
 use Rattle.dep_code.specs.Refusals.{BreaksOff, EndsWrong, IsRefused, IsRefusalOf, place_rows, section_rows, type_row}
 use Rattle.dep_code.proofs.Fronts.{bytes_push}
 
+-- a place of at most n
+abbrev UpTo : {W : Type 0} → ℕ → ℕ × W → Type 0
+UpTo n refusal = refusal.0 ≤ n
+
 -- the row tells a place of at most n
-abbrev TellsWithin : {W : Type 0} → ℕ → Row W → Type 0
-TellsWithin n r = r.at ≤ n
+abbrev TellsWithin : {W : Type 0} → ℕ → Row (ℕ × W) → Type 0
+TellsWithin n r = UpTo n r.refusal
 
-abbrev told : {W : Type 0} → Option (ℕ × W) → ℕ
-told None = 0
-told (Some r) = r.0
+told_within : {W : Type 0} (n : ℕ) (rows : List (Row (ℕ × W))) (at : ℕ) (why : W)
+    → AllByRecursion (TellsWithin n) rows → first_refusal rows ≡ Some (at, why) → at ≤ n
+told_within n rows at why all e = of_each (UpTo n) rows (at, why) all e
 
-here_or : {W : Type 0} (holds : Bool) (n here at : ℕ) (w why : W) (later : Option (ℕ × W)) → here ≤ n → (later ≡ Some (at, why) → at ≤ n) → cond holds (Some (here, w)) later ≡ Some (at, why) → at ≤ n
-here_or true n here at w why later low behind e =
-    let same : here ≡ at = ap told e in
-    omega (arith, same, low)
-here_or false n here at w why later low behind e = behind e
-
-told_within : {W : Type 0} (n : ℕ) (rows : List (Row W)) (at : ℕ) (why : W) → AllByRecursion (TellsWithin n) rows → first_refusal rows ≡ Some (at, why) → at ≤ n
-told_within n [] at why all e = absurd cc
-told_within n (r ∷ rows) at why all e = here_or r.holds n r.at at r.why why (first_refusal rows) all.0 (told_within n rows at why all.1) e
-
-all_within : {W : Type 0} (n : ℕ) (f : ℕ → Row W) (tail : List (Row W)) (a size : ℕ) → ((k : ℕ) → (f k).at ≤ n) → AllByRecursion (TellsWithin n) tail → AllByRecursion (TellsWithin n) (map f (range_with_len a size) ++ tail)
+all_within : {W : Type 0} (n : ℕ) (f : ℕ → Row (ℕ × W)) (tail : List (Row (ℕ × W))) (a size : ℕ)
+    → ((k : ℕ) → (f k).refusal.0 ≤ n) → AllByRecursion (TellsWithin n) tail → AllByRecursion (TellsWithin n) (map f (range_with_len a size) ++ tail)
 all_within n f tail a zero each last = last
 all_within n f tail a (suc size) each last = (each a, all_within n f tail (a + 1) size each last)
 

@@ -5,8 +5,8 @@ use Rattle.std.proofs.lemmas.List.{drop_at, take_at}
 use Rattle.std.proofs.lemmas.Slice.Eq.{bytes_eq-Decides}
 use Rattle.cu_base.specs.Fields.{field, number_at, bytes_of}
 use Rattle.cu_base.specs.Refusals.{first_refusal}
-use Rattle.fmp_headers.proofs.Fields.{field_in, length-bytes_of, number_at_in}
-use Rattle.fmp_headers.proofs.Rows.{none_refused}
+use Rattle.cu_base.proofs.Fields.{field_in, length-bytes_of, number_at_in}
+use Rattle.cu_base.proofs.Rows.{none_refused}
 use Rattle.image_parts.specs.declared.value.PayloadHead.{PayloadHead}
 use Rattle.image_parts.specs.Authentication.{IsAuthentication, authentication_at, authentication_bytes, authentication_rows, authentication_size}
 use Rattle.image_parts.specs.Cuts.{IsCutInto, auth_at, auth_end, behind_auth, behind_section, dep_at}

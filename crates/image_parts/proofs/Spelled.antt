@@ -5,9 +5,9 @@ use Rattle.std.proofs.lemmas.List.{take-append-drop}
 use Rattle.std.proofs.lemmas.Slice.Eq.{bytes_eq-Decides}
 use Rattle.cu_base.specs.Fields.{field, number_at, bytes_of}
 use Rattle.cu_base.specs.Refusals.{first_refusal}
-use Rattle.fmp_headers.specs.Bytes.{IsBytes}
-use Rattle.fmp_headers.proofs.Fields.{IsBytes-drop, length-field, next_field, next_number, number_at-below}
-use Rattle.fmp_headers.proofs.Rows.{passed}
+use Rattle.cu_base.specs.Bytes.{IsBytes}
+use Rattle.cu_base.proofs.Fields.{IsBytes-drop, length-field, next_field, next_number, number_at-below}
+use Rattle.cu_base.proofs.Rows.{passed}
 use Rattle.image_parts.specs.Cuts.{IsCutInto, auth_end, behind_section}
 use Rattle.image_parts.specs.Parts.{IsPartsOf, auth_bytes, dep_bytes}
 use Rattle.image_parts.specs.PayloadHeader.{IsPayloadHead, header_size, payload_head_at, payload_head_bytes, payload_header_rows, signature}

@@ -3,7 +3,7 @@
 -- 16, and CertData. dwLength counts from its own place.
 use Rattle.std.specs.Prelude.{◌≡◌, ℕ, ◌+◌, ◌-◌, ◌^◌, ◌<◌, Bool, ◌||◌, not, List, [], ◌∷◌, ◌++◌, length, nat_lt, ◌==◌}
 use Rattle.cu_base.specs.Fields.{field, number_at, bytes_of}
-use Rattle.cu_base.specs.Refusals.{Row, row}
+use Rattle.cu_base.specs.Refusals.{Row, row_at}
 use Rattle.image_parts.specs.declared.fault.PartWhy.{PartWhy}
 use Rattle.image_parts.specs.declared.fault.PartWhy.TheVariants.{ShortAuth, BadAuthLength, BadRevision, BadCertType}
 use Rattle.image_parts.specs.Values.{AuthValue}
@@ -21,17 +21,17 @@ abbrev pub has_bad_length : List ℕ → Bool
 has_bad_length image = nat_lt (certificate_size image) 24 || nat_lt (length image) (authentication_size image)
 
 -- the rows of wRevision and wCertificateType
-abbrev pub certificate_rows : List ℕ → List (Row PartWhy)
+abbrev pub certificate_rows : List ℕ → List (Row (ℕ × PartWhy))
 certificate_rows image =
-    row (not (number_at image 12 2 == 0x0200)) 12 BadRevision
-    ∷ row (not (number_at image 14 2 == 0x0EF1)) 14 BadCertType
+    row_at (not (number_at image 12 2 == 0x0200)) 12 BadRevision
+    ∷ row_at (not (number_at image 14 2 == 0x0EF1)) 14 BadCertType
     ∷ []
 
 -- when authentication data is refused, in order
-abbrev pub authentication_rows : List ℕ → List (Row PartWhy)
+abbrev pub authentication_rows : List ℕ → List (Row (ℕ × PartWhy))
 authentication_rows image =
-    row (nat_lt (length image) 32) 0 ShortAuth
-    ∷ row (has_bad_length image) 8 BadAuthLength
+    row_at (nat_lt (length image) 32) 0 ShortAuth
+    ∷ row_at (has_bad_length image) 8 BadAuthLength
     ∷ certificate_rows image
 
 -- the fields at their places, and CertData up to the end that dwLength gives

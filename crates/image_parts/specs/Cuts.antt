@@ -22,7 +22,7 @@ abbrev pub behind_auth : List ℕ → ℕ → List ℕ
 behind_auth image support = drop (auth_end image support) image
 
 -- the rows of the authentication data, where it is due
-abbrev pub auth_rows : List ℕ → ℕ → List (Row PartWhy)
+abbrev pub auth_rows : List ℕ → ℕ → List (Row (ℕ × PartWhy))
 auth_rows image support = if has_authentication support then authentication_rows image else []
 
 -- the section of this length at a place, where one is due
@@ -34,7 +34,7 @@ abbrev pub behind_section : List ℕ → ℕ → ℕ → List ℕ
 behind_section image support size = drop (auth_end image support + size) image
 
 -- the rows of the payload header behind a section of this length
-abbrev pub head_rows : List ℕ → ℕ → ℕ → List (Row PartWhy)
+abbrev pub head_rows : List ℕ → ℕ → ℕ → List (Row (ℕ × PartWhy))
 head_rows image support size = payload_header_rows (behind_section image support size) (auth_end image support + size)
 
 -- the parts at their places, the section being of this length

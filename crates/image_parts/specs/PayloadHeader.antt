@@ -4,7 +4,7 @@
 use Rattle.std.specs.Prelude.{◌≡◌, ℕ, ◌+◌, ◌^◌, ◌<◌, Bool, ◌||◌, not, List, [], ◌∷◌, ◌++◌, length, nat_lt}
 use Rattle.std.specs.Str.{bytes_eq}
 use Rattle.cu_base.specs.Fields.{field, number_at, bytes_of}
-use Rattle.cu_base.specs.Refusals.{Row, row}
+use Rattle.cu_base.specs.Refusals.{Row, row_at}
 use Rattle.image_parts.specs.declared.fault.PartWhy.{PartWhy}
 use Rattle.image_parts.specs.declared.fault.PartWhy.TheVariants.{ShortPayloadHeader, BadSignature, BadPayloadHeaderSize}
 use Rattle.image_parts.specs.declared.value.PayloadHead.{PayloadHead}
@@ -22,11 +22,11 @@ abbrev pub has_bad_size : List ℕ → Bool
 has_bad_size rest = nat_lt (header_size rest) 16 || nat_lt (length rest) (header_size rest)
 
 -- when the payload header at the front of bytes is refused, in order; the bytes begin at this place of the image
-abbrev pub payload_header_rows : List ℕ → ℕ → List (Row PartWhy)
+abbrev pub payload_header_rows : List ℕ → ℕ → List (Row (ℕ × PartWhy))
 payload_header_rows rest at =
-    row (nat_lt (length rest) 16) at ShortPayloadHeader
-    ∷ row (not (bytes_eq (field rest 0 4) signature)) at BadSignature
-    ∷ row (has_bad_size rest) (at + 4) BadPayloadHeaderSize
+    row_at (nat_lt (length rest) 16) at ShortPayloadHeader
+    ∷ row_at (not (bytes_eq (field rest 0 4) signature)) at BadSignature
+    ∷ row_at (has_bad_size rest) (at + 4) BadPayloadHeaderSize
     ∷ []
 
 -- the fields at their places

@@ -1,6 +1,6 @@
 -- When an update image is refused: at its first wrong part, in the order in which they stand.
 use Rattle.std.specs.Prelude.{◌≡◌, ℕ, ◌+◌, ◌⊎◌, IsTrue, List, Option, None, Some, Result, Ok, Err}
-use Rattle.cu_base.specs.Refusals.{first_refusal}
+use Rattle.cu_base.specs.Refusals.{first_refusal, AnswersBy}
 use Rattle.dep_code.specs.declared.fault.DepWhy.{DepWhy}
 use Rattle.dep_code.specs.Refusals as dep
 use Rattle.image_parts.specs.declared.fault.PartFault.{PartFault}
@@ -60,7 +60,10 @@ IsFound p (Ok found) = parts_seen found ≡ p
 IsFound p (Err (Part fault)) = ⊥
 IsFound p (Err Memory) = Unit {0}
 
+-- the place and the cause that a refusal tells
+abbrev pub told : PartFault → Option (ℕ × PartWhy)
+told refusal = Some (refusal.at, refusal.why)
+
 -- the answer is Ok where nothing is refused, and else it is this refusal
 abbrev pub Answers : {X : Type 0} → Result X PartFault → Option (ℕ × PartWhy) → Type 0
-Answers (Ok x) refused = refused ≡ None
-Answers (Err fault) refused = refused ≡ Some (fault.at, fault.why)
+Answers result refused = AnswersBy told result refused

@@ -9,7 +9,7 @@ ghost use Rattle.image_parts.specs.Values.{auth_seen};
 
 use crate::support::has_authentication;
 use crate::{AuthParts, PartFault, PartWhy};
-use fmp_headers::{guid_at, u16_at, u32_at, u64_at};
+use cu_base::{guid_at, u16_at, u32_at, u64_at};
 
 /// The bytes up to CertData: MonotonicCount and the fields of WIN_CERTIFICATE_UEFI_GUID.
 const AUTHENTICATION_BYTES: usize = 32;

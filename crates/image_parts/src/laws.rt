@@ -1,7 +1,8 @@
 //! The laws of update images: an image has its parts in one way, or is refused at one place for one cause, and never
 //! both. Its parts as they are written one behind another are its parts at their places.
 
-ghost use Rattle.std.specs.Prelude.{◌≡◌, ◌<◌, ◌⊎◌, ℕ, List, All};
+ghost use Rattle.std.specs.Prelude.{◌≡◌, ◌<◌, ◌⊎◌, ℕ, List};
+ghost use Rattle.cu_base.specs.Bytes.{IsBytes};
 ghost use Rattle.image_parts.specs.declared.fault.PartWhy.{PartWhy};
 ghost use Rattle.image_parts.specs.Cuts.{IsCutInto};
 ghost use Rattle.image_parts.specs.Parts.{IsPartsOf};
@@ -11,7 +12,7 @@ ghost use Rattle.image_parts.specs.Values.{PartsValue};
 /// Parts are those of an image exactly where they stand at their places and nothing is refused.
 pub fn parts_stand_at_their_places()
     ensures cut { (image : List ℕ) (support : ℕ) (p : PartsValue) → IsPartsOf image support p → IsCutInto image support p }
-    ensures spelled { (image : List ℕ) (support : ℕ) (p : PartsValue) → All (λ b. b < 256) image → IsCutInto image support p → IsPartsOf image support p }
+    ensures spelled { (image : List ℕ) (support : ℕ) (p : PartsValue) → IsBytes image → IsCutInto image support p → IsPartsOf image support p }
 {}
 
 /// An image has one list of parts.
@@ -21,7 +22,7 @@ pub fn one_list_of_parts()
 
 /// An image has its parts or is refused.
 pub fn parts_or_refused()
-    ensures { (image : List ℕ) (support : ℕ) → All (λ b. b < 256) image → ((p : PartsValue) × IsPartsOf image support p) ⊎ ((at : ℕ) × (why : PartWhy) × IsRefused image support at why) }
+    ensures { (image : List ℕ) (support : ℕ) → IsBytes image → ((p : PartsValue) × IsPartsOf image support p) ⊎ ((at : ℕ) × (why : PartWhy) × IsRefused image support at why) }
 {}
 
 /// An image that has its parts is not refused.

@@ -6,7 +6,7 @@ ghost use Rattle.image_parts.specs.PayloadHeader.{header_size, payload_head_at, 
 ghost use Rattle.image_parts.specs.Refusals.{Answers};
 
 use crate::{PartFault, PartWhy, PayloadHead};
-use fmp_headers::u32_at;
+use cu_base::u32_at;
 
 /// The bytes of the fields: signature, HeaderSize, FwVersion and LowestSupportedVersion.
 pub const FIELD_BYTES: usize = 16;

@@ -3,8 +3,9 @@
 ghost use Rattle.std.specs.Prelude.{◌≡◌, ℕ, ◌+◌, ◌-◌, ◌^◌, ◌≤◌, ◌<◌, List, [], length, None, Err, IfOk, IfErr};
 ghost use Rattle.cu_base.specs.Refusals.{first_refusal};
 ghost use Rattle.cu_io.specs.Streams.{Goes};
-ghost use Rattle.capsule_grammar.specs.Fronts.{Begins, ArePlaces};
-ghost use Rattle.capsule_grammar.specs.Refusals.{list_end, fmp_rows, fmp_header_rows, all_image_rows};
+ghost use Rattle.capsule_grammar.specs.Fronts.{Begins};
+ghost use Rattle.capsule_grammar.specs.Accepted.{AreBounds};
+ghost use Rattle.capsule_grammar.specs.Refusals.{list_end, fmp_rows, fmp_front_rows, all_image_rows};
 ghost use Rattle.capsule_tool.specs.Scans.{Scans, ScansImage, IsStop};
 
 use super::stop::ScanStop;
@@ -48,8 +49,8 @@ fn scan_front<S: Source>(
     ensures front { IfOk result (λ front. Goes front stream.old stream.new) }
     ensures list { IfOk result (λ front. length front ≡ list_end front) }
     ensures within { IfOk result (λ front. length front ≤ size) }
-    ensures rows { IfOk result (λ front. (body : List ℕ) → Begins front size body → first_refusal (fmp_header_rows body at) ≡ None) }
-    ensures stop { IfErr result (λ stop. Scans {X = List ℕ} size (λ body. fmp_header_rows body at) [] stream.old stream.new (Err stop)) }
+    ensures rows { IfOk result (λ front. (body : List ℕ) → Begins front size body → first_refusal (fmp_front_rows body at) ≡ None) }
+    ensures stop { IfErr result (λ stop. Scans {X = List ℕ} size (λ body. fmp_front_rows body at) [] stream.old stream.new (Err stop)) }
     ensures later { stream.old.faults ≤ stream.new.faults }
 {
     let mut head = [0u8; FMP_HEADER_BYTES as usize];
@@ -91,7 +92,7 @@ fn scan_images<S: Source>(
     requires place { stream.old.place + size < 2 ^ 63 + length front.now }
     requires list { length front.now ≡ list_end front.now }
     requires within { length front.now ≤ size }
-    requires places { ArePlaces front.now size }
+    requires places { AreBounds front.now size }
     ensures scan { Scans size (λ body. all_image_rows body at) front.now stream.old stream.new result }
     ensures later { stream.old.faults ≤ stream.new.faults }
 {
@@ -99,8 +100,8 @@ fn scan_images<S: Source>(
     let images = image_count(front) as u32;
     let mut here = front.len() as u32;
     for k in drivers..drivers + images {
-        let from = start_of(front, size, k) as u32;
-        let to = start_of(front, size, k + 1) as u32;
+        let from = start_of(front, size as usize, k) as u32;
+        let to = start_of(front, size as usize, k + 1) as u32;
         here = from + scan_image(stream, from - here, to - from, at + from)?;
     }
     Ok(())

@@ -8,8 +8,8 @@ ghost use Rattle.reset_play.specs.Thin.{has_thin_header, has_thin_body, has_thin
 ghost use Rattle.reset_play.specs.ThinValues.{item_of, thin_said, parts_of};
 
 use bench_model::{Board, Device};
-use cu_base::Guid;
-use fmp_headers::{FMP_CAPSULE_GUID, guid_at, u16_at, u32_at, u64_at};
+use cu_base::{Guid, guid_at, u16_at, u32_at, u64_at};
+use fmp_headers::FMP_CAPSULE_GUID;
 
 /// The bytes before the image of a thin delivery: a capsule header, an FMP header with one offset and an
 /// image header of version 3.

@@ -12,10 +12,10 @@ returns-in-Err-clause-refused c =
     let count = c.loop.invariant.count in
     fault_behind c.in-Err.fault c.behind.result c.loop.capsules.items c.loop.at c.args.bytes.now c.loop.invariant.before (omega (arith, count)) (λ some. c.loop.invariant.more (omega (arith, count))) c.in-Err.ensures.refused c.behind.ensures
 
-pub returns-then-at-bytes-clause-all : goal.returns-then-at-bytes-clause-all
-returns-then-at-bytes-clause-all c =
+pub returns-then-at-bytes-clause-ok : goal.returns-then-at-bytes-clause-ok
+returns-then-at-bytes-clause-ok c =
     let bytes = c.args.bytes.now in
-    let before = before_push c.loop.capsules.items c.push.new.self.items c.in-Ok.found.0 c.loop.at c.in-Ok.found.1 bytes c.loop.invariant.before c.in-Ok.ensures.capsule c.in-Ok.ensures.length c.in-Ok.ensures.spelled c.in_ok-push.ensures.ok in
+    let before = before_push c.loop.capsules.items c.push.new.self.items c.in-Ok.found.0 c.loop.at c.in-Ok.found.1 bytes c.loop.invariant.before c.in-Ok.ensures.ok.capsule c.in-Ok.ensures.ok.size c.in-Ok.ensures.ok.spelled c.in_ok-push.ensures.ok in
     let count : length c.push.new.self.items ≡ length c.loop.capsules.items + 1 = ap length c.in_ok-push.ensures.ok ∙ length_push c.loop.capsules.items c.in-Ok.found.0 in
     spells_all c.push.new.self.items (c.loop.at + c.in-Ok.found.1) bytes before (omega (arith, count)) (omega (arith, count, c.loop.invariant.count)) c.if-at-bytes.true
 
@@ -26,11 +26,11 @@ returns-clause-refused c =
 pub loop-preserved : goal.loop-preserved
 loop-preserved c =
     let bytes = c.args.bytes.now in
-    let before : Before c.push.new.self.items (c.loop.at + c.in-Ok.found.1) bytes = before_push c.loop.capsules.items c.push.new.self.items c.in-Ok.found.0 c.loop.at c.in-Ok.found.1 bytes c.loop.invariant.before c.in-Ok.ensures.capsule c.in-Ok.ensures.length c.in-Ok.ensures.spelled c.in_ok-push.ensures.ok in
+    let before : Before c.push.new.self.items (c.loop.at + c.in-Ok.found.1) bytes = before_push c.loop.capsules.items c.push.new.self.items c.in-Ok.found.0 c.loop.at c.in-Ok.found.1 bytes c.loop.invariant.before c.in-Ok.ensures.ok.capsule c.in-Ok.ensures.ok.size c.in-Ok.ensures.ok.spelled c.in_ok-push.ensures.ok in
     let count : length c.push.new.self.items ≡ length c.loop.capsules.items + 1 = ap length c.in_ok-push.ensures.ok ∙ length_push c.loop.capsules.items c.in-Ok.found.0 in
     record {
       before = before;
       count = omega (arith, count, c.loop.invariant.count);
       more = λ some. omega (arith, before.within, c.if-at-bytes.false);
-      place = omega (arith, c.loop.invariant.place, size_limit c.in-Ok.found.0 c.in-Ok.ensures.capsule, c.in-Ok.ensures.length);
+      place = omega (arith, c.loop.invariant.place, size_limit c.in-Ok.found.0 c.in-Ok.ensures.ok.capsule, c.in-Ok.ensures.ok.size);
     }

@@ -2,7 +2,7 @@ use Rattle.std.proofs.Common.{◌+◌, ◌≡◌, ◌≤◌, None, arith, below_
 use Rattle.std.proofs.lemmas.Result.{err_from_is_err_and}
 use Rattle.cu_base.specs.Refusals.{first_refusal}
 use Rattle.capsule_grammar.specs.Refusals.{image_rows, image_count, driver_count, item, bound}
-use Rattle.capsule_grammar.proofs.Tables.{some_in, none_in}
+use Rattle.cu_base.proofs.Rows.{some_in, none_in}
 use Rattle.capsule_grammar.proofs.FrontLemmas.{begins_itself}
 use Rattle.capsule_grammar.proofs.checking.check_images.Goals as goal
 

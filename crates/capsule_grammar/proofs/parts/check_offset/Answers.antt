@@ -4,8 +4,8 @@ use Rattle.capsule_grammar.specs.Refusals.{list_end, offset}
 use Rattle.capsule_grammar.proofs.FrontLemmas.{offset_same, list_end_same}
 use Rattle.capsule_grammar.proofs.parts.check_offset.Goals as goal
 
-pub returns-then-wrong : goal.returns-then-wrong
-returns-then-wrong c = λ body b.
+pub returns-else-k-gt0 : goal.returns-else-k-gt0
+returns-else-k-gt0 c = λ body b.
     let front = c.args.front.now in
     let k = c.args.k in
     let here : offset body k ≡ offset front k = offset_same k b c.requires.list c.requires.there in

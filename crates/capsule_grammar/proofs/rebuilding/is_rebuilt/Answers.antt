@@ -2,7 +2,7 @@ use Rattle.std.proofs.Common.{◌≡◌, true, false, ℕ, List, ◌+◌, ◌-�
 use Rattle.std.specs.List.{concat}
 use Rattle.std.proofs.lemmas.Bool.{eqb-true, eq-eqb}
 use Rattle.cu_base.specs.Fields.{field}
-use Rattle.fmp_headers.specs.Bytes.{IsBytes}
+use Rattle.cu_base.specs.Bytes.{IsBytes}
 use Rattle.fmp_headers.specs.CapsuleHeader.{header_size, image_size}
 use Rattle.capsule_grammar.specs.Accepted.{IsFmpBody}
 use Rattle.capsule_grammar.specs.Rebuilt.{kept_items}

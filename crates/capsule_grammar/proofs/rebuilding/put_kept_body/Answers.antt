@@ -1,7 +1,7 @@
 use Rattle.std.proofs.Common.{List, ℕ, ◌++◌, ◌∙◌, ap, arith}
 use Rattle.std.specs.List.{concat, flat_map}
 use Rattle.cu_base.specs.Fields.{bytes_of}
-use Rattle.fmp_headers.specs.Bytes.{IsBytes}
+use Rattle.cu_base.specs.Bytes.{IsBytes}
 use Rattle.fmp_headers.specs.FmpHeader.{fmp_header_bytes}
 use Rattle.capsule_grammar.specs.Reading.{fmp_of}
 use Rattle.capsule_grammar.specs.Rebuilt.{emptied_fmp, kept_items}

@@ -1,10 +1,10 @@
 use Rattle.std.proofs.Common.{◌≡◌, ◌+◌, ◌-◌, List, ℕ, ◌++◌, ◌∙◌, length, take, drop, refl, ap, arith}
 use Rattle.std.specs.List.{concat}
 use Rattle.cu_base.specs.Fields.{field}
-use Rattle.fmp_headers.specs.Bytes.{IsBytes}
+use Rattle.cu_base.specs.Bytes.{IsBytes}
 use Rattle.fmp_headers.specs.CapsuleHeader.{header_size, image_size, capsule_header_bytes}
 use Rattle.fmp_headers.specs.declared.capsule.CapsuleHeader.{CapsuleHeader}
-use Rattle.fmp_headers.proofs.Fields.{IsBytes-field}
+use Rattle.cu_base.proofs.Fields.{IsBytes-field}
 use Rattle.capsule_grammar.specs.declared.value.Body.TheVariants.{Fmp}
 use Rattle.capsule_grammar.specs.Reading.{fmp_of}
 use Rattle.capsule_grammar.specs.Rebuilt.{emptied_fmp, kept_items}

@@ -2,4 +2,4 @@ use Rattle.cu_base.proofs.GuidLemmas.{reads_back}
 use Rattle.cu_base.proofs.laws.guids_read_back.Goals as goal
 
 pub returns : goal.returns
-returns c = λ bytes long small. reads_back bytes long small
+returns c = reads_back

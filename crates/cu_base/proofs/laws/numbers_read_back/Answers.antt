@@ -1,5 +1,5 @@
-use Rattle.cu_base.proofs.FieldLemmas.{reads}
+use Rattle.cu_base.proofs.Fields.{number-bytes_of}
 use Rattle.cu_base.proofs.laws.numbers_read_back.Goals as goal
 
 pub returns : goal.returns
-returns c = λ size n small. reads size n small
+returns c = λ size n small. number-bytes_of size n small

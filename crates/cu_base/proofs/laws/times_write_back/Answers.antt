@@ -2,4 +2,4 @@ use Rattle.cu_base.proofs.TimeLemmas.{writes_back}
 use Rattle.cu_base.proofs.laws.times_write_back.Goals as goal
 
 pub returns : goal.returns
-returns c = λ bytes long small. writes_back bytes long small
+returns c = writes_back

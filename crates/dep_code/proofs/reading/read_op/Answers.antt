@@ -1,5 +1,6 @@
 use Rattle.std.proofs.Common.{arith}
-use Rattle.dep_code.proofs.Bytes.{IsBytes, version_op, declare_op, text_op, text_form}
+use Rattle.cu_base.specs.Bytes.{IsBytes}
+use Rattle.dep_code.proofs.Bytes.{version_op, declare_op, text_op, text_form}
 use Rattle.dep_code.proofs.reading.read_op.Goals as goal
 
 pub returns-in-1-clause-bytes : goal.returns-in-1-clause-bytes

@@ -1,4 +1,3 @@
-use Rattle.image_parts.proofs.Decided.{are_bytes}
 use Rattle.image_parts.proofs.Read.{parts_are_cut}
 use Rattle.image_parts.proofs.Spelled.{cut_is_parts}
 use Rattle.image_parts.proofs.laws.parts_stand_at_their_places.Goals as goal
@@ -7,4 +6,4 @@ pub returns-clause-cut : goal.returns-clause-cut
 returns-clause-cut c = parts_are_cut
 
 pub returns-clause-spelled : goal.returns-clause-spelled
-returns-clause-spelled c = λ image support p is h. cut_is_parts image support p (are_bytes image is) h
+returns-clause-spelled c = cut_is_parts

@@ -1,5 +1,5 @@
 use Rattle.std.proofs.Common.{arith}
-use Rattle.fmp_headers.specs.Bytes.{IsBytes}
+use Rattle.cu_base.specs.Bytes.{IsBytes}
 use Rattle.image_parts.proofs.Found.{found_only, found_parts}
 use Rattle.image_parts.proofs.splitting.split.Goals as goal
 

@@ -3,7 +3,7 @@
 ghost use Rattle.std.specs.Prelude.{◌≡◌, ◌+◌, ◌≤◌, length};
 ghost use Rattle.cu_base.specs.Fields.{field, number_at};
 
-use cu_base::{Guid, read_u16, read_u32, read_u64};
+use crate::{Guid, read_u16, read_u32, read_u64};
 
 /// The little-endian number in the 2 bytes at a place.
 pub fn u16_at(bytes: &[u8], at: usize) -> u16
