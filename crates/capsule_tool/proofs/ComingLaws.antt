@@ -5,7 +5,7 @@ use Rattle.std.proofs.lemmas.List.{take_more, drop_all}
 use Rattle.bench_model.specs.Boards.{BoardValue}
 use Rattle.cu_io.specs.Named.{Named}
 use Rattle.reset_play.specs.ScriptInputs.{inputs_of}
-use Rattle.reset_play.specs.declared.event.Event.{Event}
+use Rattle.reference_machine.specs.declared.event.Event.{Event}
 use Rattle.capsule_tool.specs.Findings.{Finding}
 use Rattle.capsule_tool.specs.Plays.{input_work, inputs_work, played}
 use Rattle.capsule_tool.specs.Readings.{Seen}

@@ -7,11 +7,11 @@ use Rattle.std.proofs.Math.Seq.{drop-nil}
 use Rattle.std.proofs.lemmas.Slice.Eq.{bytes_eq-Decides}
 use Rattle.bench_model.specs.Boards.{BoardValue}
 use Rattle.cu_io.specs.Named.{Named, bytes_named, LacksName}
-use Rattle.reset_play.specs.Laws.{Distinct}
+use Rattle.reference_machine.specs.Laws.{Distinct}
 use Rattle.reset_play.specs.Plays.{is_of_files, is_thin_on, loaded_bytes, can_play}
 use Rattle.reset_play.specs.ScriptInputs.{mention, once, has_name, inputs_of}
-use Rattle.reset_play.specs.declared.event.Event.{Event}
-use Rattle.reset_play.specs.declared.event.Event.TheVariants.{Time, Drop, Signal, Lay, Poke, Stage, Boot, Arm, Fail, Reset, Show}
+use Rattle.reference_machine.specs.declared.event.Event.{Event}
+use Rattle.reference_machine.specs.declared.event.Event.TheVariants.{Time, Drop, Signal, Lay, Poke, Stage, Boot, Arm, Fail, Reset, Show}
 
 -- small facts
 cc_false : false ≡ true → ⊥

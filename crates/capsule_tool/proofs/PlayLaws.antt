@@ -7,11 +7,11 @@ use Rattle.bench_model.specs.Boards.{BoardValue}
 use Rattle.cu_io.specs.Named.{Named}
 use Rattle.reset_play.specs.Plays.{is_of_files, is_thin_on, thin_trace}
 use Rattle.reset_play.specs.ScriptInputs.{inputs_of}
-use Rattle.reset_play.specs.ScriptText.{Said as ScriptSaid}
+use Rattle.reset_play.specs.ScriptText.{ScriptSaid}
 use Rattle.reset_play.specs.Texts.{trace_text}
-use Rattle.reset_play.specs.Told.{said_of, told_of}
-use Rattle.reset_play.specs.declared.event.Event.{Event}
-use Rattle.reset_play.specs.declared.trace.Entry.{Entry}
+use Rattle.reference_machine.specs.TraceValues.{entry_value, answer_value}
+use Rattle.reference_machine.specs.declared.event.Event.{Event}
+use Rattle.reference_machine.specs.declared.trace.Entry.{Entry}
 use Rattle.capsule_tool.specs.declared.answer.Answer.{Answer}
 use Rattle.capsule_tool.specs.declared.limits.TheConstants.{MAX_NAMED_BYTES}
 use Rattle.capsule_tool.specs.declared.status.Status.TheVariants.{Done}
@@ -41,12 +41,12 @@ pub thin_on : (board : BoardValue) (loaded loaded' : Named) (name bytes : List �
 thin_on board loaded loaded' name bytes thin is all =
     rw is (list_all-append (λ pair. is_thin_on board pair.1) loaded ((name, bytes) ∷ []) ∙ rw all (rw thin refl))
 
-answers_of : (trace : List Entry) → map (λ e. told_of e.answer) trace ≡ map (λ said. said.answer) (map said_of trace)
+answers_of : (trace : List Entry) → map (λ e. answer_value e.answer) trace ≡ map (λ said. said.answer) (map entry_value trace)
 answers_of [] = refl
-answers_of (entry ∷ trace) = ap (λ answers. told_of entry.answer ∷ answers) (answers_of trace)
+answers_of (entry ∷ trace) = ap (λ answers. answer_value entry.answer ∷ answers) (answers_of trace)
 
 pub played_is : (board : BoardValue) (events : List Event) (loaded : Named) (trace : List Entry) (text : List ℕ)
-    → map said_of trace ≡ thin_trace board loaded events → text ≡ trace_text board events (map (λ e. told_of e.answer) trace)
-    → record { answer = record { status = Done; text = text }; trace = map said_of trace } ≡ played board events loaded
+    → map entry_value trace ≡ thin_trace board loaded events → text ≡ trace_text board events (map (λ e. answer_value e.answer) trace)
+    → record { answer = record { status = Done; text = text }; trace = map entry_value trace } ≡ played board events loaded
 played_is board events loaded trace text told is =
     rw is (rw (answers_of trace) (ap (played_as board events) told))

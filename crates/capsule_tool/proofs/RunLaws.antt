@@ -11,8 +11,8 @@ use Rattle.recipe_files.specs.Boards.{board_text}
 use Rattle.recipe_files.specs.declared.faults.BadKind.{BadKind}
 use Rattle.reset_play.specs.Plays.{has_one_device, is_of_files, is_thin_on}
 use Rattle.reset_play.specs.ScriptInputs.{inputs_of}
-use Rattle.reset_play.specs.ScriptText.{Said as ScriptSaid, script_said}
-use Rattle.reset_play.specs.declared.event.Event.{Event}
+use Rattle.reset_play.specs.ScriptText.{ScriptSaid, script_said}
+use Rattle.reference_machine.specs.declared.event.Event.{Event}
 use Rattle.capsule_tool.specs.Answers.{usage, later, unread, long}
 use Rattle.capsule_tool.specs.Check.{verdict_of}
 use Rattle.capsule_tool.specs.Files.{verdict_answer, rebuilt_by}

@@ -24,8 +24,8 @@ use Rattle.capsule_grammar.specs.Reading.{image_of, fmp_of, body_read, capsule_o
 use Rattle.capsule_grammar.proofs.Offsets.{bound_is, bound_ends}
 use Rattle.capsule_grammar.proofs.Read.{read_is_capsule, read_is_spelled, fmp_case, front_of}
 use Rattle.capsule_grammar.proofs.Spelled.{spelled_is_read, spelled_reads_back, spelled_size}
-use Rattle.reset_play.specs.Deliveries.{fmp_guid}
-use Rattle.reset_play.specs.Formats as machine
+use Rattle.reference_machine.specs.Deliveries.{fmp_guid}
+use Rattle.reference_machine.specs.Formats as machine
 use Rattle.reset_play.specs.Thin.{is_thin, thin_item, thin_capsules}
 use Rattle.reset_play.proofs.ThinLemmas.{one_byte, item_read}
 use Rattle.capsule_tool.specs.ThinCapsules.{IsThinImage, IsThinFmp, IsThinBody, IsThinCapsule, machine_item, machine_body, machine_capsule}

@@ -9,10 +9,10 @@ use Rattle.recipe_files.specs.Boards.{board_text}
 use Rattle.recipe_files.specs.declared.faults.BadKind.{BadKind}
 use Rattle.reset_play.specs.Plays.{has_one_device, is_of_files, is_thin_on, thin_trace}
 use Rattle.reset_play.specs.ScriptInputs.{inputs_of}
-use Rattle.reset_play.specs.ScriptText.{Said as ScriptSaid, script_said}
+use Rattle.reset_play.specs.ScriptText.{ScriptSaid, script_said}
 use Rattle.reset_play.specs.Texts.{trace_text}
-use Rattle.reset_play.specs.Told.{Said}
-use Rattle.reset_play.specs.declared.event.Event.{Event}
+use Rattle.reference_machine.specs.TraceValues.{EntryValue}
+use Rattle.reference_machine.specs.declared.event.Event.{Event}
 use Rattle.capsule_tool.specs.declared.limits.TheConstants.{MAX_TEXT_BYTES, MAX_NAMED_BYTES}
 use Rattle.capsule_tool.specs.declared.status.Status.TheVariants.{Done}
 use Rattle.capsule_tool.specs.Answers.{faulty_board, faulty_script, later, long}
@@ -22,7 +22,7 @@ use Rattle.capsule_tool.specs.Works.{Work}
 use Rattle.capsule_tool.specs.Works.Work.{Finds, Reads}
 
 -- a play that told this of its events
-abbrev pub played_as : BoardValue → List Event → List Said → Finding
+abbrev pub played_as : BoardValue → List Event → List EntryValue → Finding
 played_as board events trace = record {
   answer = record { status = Done; text = trace_text board events (map (λ said. said.answer) trace) };
   trace = trace;

@@ -4,7 +4,7 @@ use Rattle.std.specs.Io.KnownBytes.{Appends, Keeps}
 use Rattle.cu_base.specs.Causes.{Rose, RoseBy}
 use Rattle.cu_io.specs.Named.{Named, IsMissing}
 use Rattle.cu_io.specs.Streams.{AppendsFront}
-use Rattle.reset_play.specs.Told.{Said}
+use Rattle.reference_machine.specs.TraceValues.{EntryValue}
 use Rattle.capsule_tool.specs.Answers.{usage, unread, long}
 use Rattle.capsule_tool.specs.Findings.{Finding}
 use Rattle.capsule_tool.specs.Readings.{Seen, MayPassLimit}
@@ -25,7 +25,7 @@ Writes answer status written written' faults faults' =
     ⊎ ((status ≡ 6) × AppendsFront written written' answer.text))
 
 -- the told status, trace and text; or memory ran out
-abbrev pub AnswersAsTold : Option Named → List (List ℕ) → ℕ → List Said → Option (List ℕ) → Option (List ℕ) → Type 0
+abbrev pub AnswersAsTold : Option Named → List (List ℕ) → ℕ → List EntryValue → Option (List ℕ) → Option (List ℕ) → Type 0
 AnswersAsTold None words status trace written written' = ⊤
 AnswersAsTold (Some named) words status trace written written' =
     (status ≡ 6)
@@ -33,7 +33,7 @@ AnswersAsTold (Some named) words status trace written written' =
     × Appends written written' (told words named).answer.text)
 
 -- by the bytes alone: inputs hold bytes by which the work finds this status, and that is written
-abbrev pub Judges : Work → Option Named → ℕ → List Said → Option (List ℕ) → Option (List ℕ) → Type 0
+abbrev pub Judges : Work → Option Named → ℕ → List EntryValue → Option (List ℕ) → Option (List ℕ) → Type 0
 Judges work named status trace written written' =
     (finding : Finding) × (readings : List (List ℕ)) × Comes named readings work (Finds finding)
     × (code_of finding.answer.status ≡ status) × (trace ≡ finding.trace) × Appends written written' finding.answer.text
@@ -55,14 +55,14 @@ IsLongOne work named before after written written' =
     × MayPassLimit named limit name × RoseBy (limit + 1) before.taken after.taken × Appends written written' (long name).text
 
 -- an input passes its limit; or inputs hold bytes by whose sum the work finds so, and more than the sum's limit was taken
-abbrev pub IsLong : Work → Option Named → Seen → Seen → List Said → Option (List ℕ) → Option (List ℕ) → Type 0
+abbrev pub IsLong : Work → Option Named → Seen → Seen → List EntryValue → Option (List ℕ) → Option (List ℕ) → Type 0
 IsLong work named before after trace written written' =
     IsLongOne work named before after written written'
     ⊎ (Judges work named 7 trace written written' × RoseBy (MAX_NAMED_BYTES + 1) before.taken after.taken)
 
 -- one finding that the work may come to gave the text, the trace, the status and the names asked for, and only work that
 -- was done has a trace; or memory ran out before anything was found, and nothing was written
-abbrev pub EndsBy : Work → Option Named → Seen → Seen → ℕ → List Said → Option (List ℕ) → Option (List ℕ) → ℕ → ℕ → Type 0
+abbrev pub EndsBy : Work → Option Named → Seen → Seen → ℕ → List EntryValue → Option (List ℕ) → Option (List ℕ) → ℕ → ℕ → Type 0
 EndsBy work named before after status trace written written' faults faults' =
     ((finding : Finding) × MayFind named work before after finding × Writes finding.answer status written written' faults faults'
     × (trace ≡ finding.trace) × ((trace ≡ []) ⊎ (code_of finding.answer.status ≡ 0)))

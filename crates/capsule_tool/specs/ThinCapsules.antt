@@ -8,7 +8,7 @@ use Rattle.capsule_grammar.specs.declared.value.Body.{Body}
 use Rattle.capsule_grammar.specs.declared.value.Body.TheVariants.{Other, Fmp}
 use Rattle.capsule_grammar.specs.declared.value.Capsule.{Capsule}
 use Rattle.capsule_grammar.specs.Values.{FmpValue}
-use Rattle.reset_play.specs.Formats as machine
+use Rattle.reference_machine.specs.Formats as machine
 
 -- an image of header version 3 with support 0, without pad
 pub record IsThinImage (i : Image) : Type 0 where

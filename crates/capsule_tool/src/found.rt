@@ -16,12 +16,12 @@ pub struct Found {
 
 impl Model for Found {
     ghost use Rattle.std.specs.Prelude.{map};
-    ghost use Rattle.reset_play.specs.Told.{said_of};
+    ghost use Rattle.reference_machine.specs.TraceValues.{entry_value};
     ghost use Rattle.capsule_tool.specs.Findings.{Finding};
 
     ghost Value = { Finding };
 
-    ghost view = { λ f. record { answer = f.answer; trace = map said_of f.trace.items } };
+    ghost view = { λ f. record { answer = f.answer; trace = map entry_value f.trace.items } };
 }
 
 impl Found {

@@ -1,6 +1,6 @@
 ghost use Rattle.std.specs.Prelude.{◌≡◌, ◌≤◌, ◌⊎◌, [], map, IfOk, OnErr};
 ghost use Rattle.cu_base.specs.Causes.{Rose};
-ghost use Rattle.reset_play.specs.Told.{said_of};
+ghost use Rattle.reference_machine.specs.TraceValues.{entry_value};
 ghost use Rattle.capsule_tool.specs.Forms.{form_of};
 ghost use Rattle.capsule_tool.specs.Readings.{seen};
 ghost use Rattle.capsule_tool.specs.Runs.{AnswersAsTold, Judges, IsUsage, IsUnread, IsLong, Writes, EndsBy};
@@ -47,7 +47,7 @@ fn find<I: Inputs>(alloc: Global, words: &[Text], inputs: &mut I) -> Result<Foun
 fn say<O: Sink>(out: &mut O, found: Found) -> Outcome
     ensures counts { O.faults out.old ≤ O.faults out.new }
     ensures written { Writes found.answer result.status (O.written out.old) (O.written out.new) (O.faults out.old) (O.faults out.new) }
-    ensures trace { map said_of result.trace.items ≡ found.trace }
+    ensures trace { map entry_value result.trace.items ≡ found.trace }
 {
     let status = match write_whole(out, found.answer.text.as_slice()) {
         Ok(()) => found.answer.status,
@@ -69,22 +69,22 @@ pub fn run<I: Inputs, O: Sink>(
     out: &mut O,
 ) -> Outcome
     // Where nothing outside fails, status, trace and text are those told by the words and the named bytes.
-    ensures exact { ¬ Rose (I.faults inputs.old) (I.faults inputs.new) → ¬ Rose (O.faults out.old) (O.faults out.new) → AnswersAsTold (I.named inputs.old) words.now result.status (map said_of result.trace.items) (O.written out.old) (O.written out.new) }
+    ensures exact { ¬ Rose (I.faults inputs.old) (I.faults inputs.new) → ¬ Rose (O.faults out.old) (O.faults out.new) → AnswersAsTold (I.named inputs.old) words.now result.status (map entry_value result.trace.items) (O.written out.old) (O.written out.new) }
 
     // When each status comes, whatever happens outside.
-    ensures done { result.status ≡ 0 → Judges (work_of words.now) (I.named inputs.old) 0 (map said_of result.trace.items) (O.written out.old) (O.written out.new) }
-    ensures refused { result.status ≡ 1 → Judges (work_of words.now) (I.named inputs.old) 1 (map said_of result.trace.items) (O.written out.old) (O.written out.new) }
+    ensures done { result.status ≡ 0 → Judges (work_of words.now) (I.named inputs.old) 0 (map entry_value result.trace.items) (O.written out.old) (O.written out.new) }
+    ensures refused { result.status ≡ 1 → Judges (work_of words.now) (I.named inputs.old) 1 (map entry_value result.trace.items) (O.written out.old) (O.written out.new) }
     ensures usage { result.status ≡ 2 → IsUsage (form_of words.now) (O.written out.old) (O.written out.new) }
-    ensures faulty { result.status ≡ 3 → Judges (work_of words.now) (I.named inputs.old) 3 (map said_of result.trace.items) (O.written out.old) (O.written out.new) }
+    ensures faulty { result.status ≡ 3 → Judges (work_of words.now) (I.named inputs.old) 3 (map entry_value result.trace.items) (O.written out.old) (O.written out.new) }
     ensures unread { result.status ≡ 4 → IsUnread (work_of words.now) (I.named inputs.old) (seen (I.asked inputs.old) (I.faults inputs.old) (I.taken inputs.old)) (seen (I.asked inputs.new) (I.faults inputs.new) (I.taken inputs.new)) (O.written out.old) (O.written out.new) }
     ensures unwritten { result.status ≡ 5 → Rose (O.faults out.old) (O.faults out.new) }
-    ensures long { result.status ≡ 7 → IsLong (work_of words.now) (I.named inputs.old) (seen (I.asked inputs.old) (I.faults inputs.old) (I.taken inputs.old)) (seen (I.asked inputs.new) (I.faults inputs.new) (I.taken inputs.new)) (map said_of result.trace.items) (O.written out.old) (O.written out.new) }
-    ensures later { result.status ≡ 8 → Judges (work_of words.now) (I.named inputs.old) 8 (map said_of result.trace.items) (O.written out.old) (O.written out.new) }
+    ensures long { result.status ≡ 7 → IsLong (work_of words.now) (I.named inputs.old) (seen (I.asked inputs.old) (I.faults inputs.old) (I.taken inputs.old)) (seen (I.asked inputs.new) (I.faults inputs.new) (I.taken inputs.new)) (map entry_value result.trace.items) (O.written out.old) (O.written out.new) }
+    ensures later { result.status ≡ 8 → Judges (work_of words.now) (I.named inputs.old) 8 (map entry_value result.trace.items) (O.written out.old) (O.written out.new) }
     ensures other { result.status ≤ 8 }
 
     // One finding gave status, trace, text and the names asked for; or memory ran out first. Only work that was done has a trace.
-    ensures found { EndsBy (work_of words.now) (I.named inputs.old) (seen (I.asked inputs.old) (I.faults inputs.old) (I.taken inputs.old)) (seen (I.asked inputs.new) (I.faults inputs.new) (I.taken inputs.new)) result.status (map said_of result.trace.items) (O.written out.old) (O.written out.new) (O.faults out.old) (O.faults out.new) }
-    ensures bare { (map said_of result.trace.items ≡ []) ⊎ ((result.status ≡ 0) ⊎ ((result.status ≡ 5) ⊎ (result.status ≡ 6))) }
+    ensures found { EndsBy (work_of words.now) (I.named inputs.old) (seen (I.asked inputs.old) (I.faults inputs.old) (I.taken inputs.old)) (seen (I.asked inputs.new) (I.faults inputs.new) (I.taken inputs.new)) result.status (map entry_value result.trace.items) (O.written out.old) (O.written out.new) (O.faults out.old) (O.faults out.new) }
+    ensures bare { (map entry_value result.trace.items ≡ []) ⊎ ((result.status ≡ 0) ⊎ ((result.status ≡ 5) ⊎ (result.status ≡ 6))) }
 
     // The inputs stay, and counts never fall.
     ensures named { I.named inputs.new ≡ I.named inputs.old }

@@ -1,45 +1,45 @@
 -- A boot that nothing stops comes to the same as its work done piece by piece.
 use Rattle.std.proofs.Common.{◌≡◌, ℕ, zero, suc, ◌+◌, ◌*◌, ◌≤◌, List, [], ◌∷◌, ◌++◌, length, refl, arith, ap, ◌∙◌}
-use Rattle.reset_play.specs.declared.unit.End.{End}
-use Rattle.reset_play.specs.Boots.{Work, Progress, Course, after_unit, next, after_steps, boot_start, boot_of, boot_work, course_of}
-use Rattle.reset_play.specs.Boots.Work.{Settles, Unstages, Does, Prunes, Removes, Clears}
-use Rattle.reset_play.specs.Boots.Course.{Claim, Close}
-use Rattle.reset_play.specs.Deliveries.{BootUnit}
-use Rattle.reset_play.specs.Formats.{Formats}
-use Rattle.reset_play.specs.Machine.{Machine}
-use Rattle.reset_play.specs.Report.{Reported}
-use Rattle.reset_play.specs.Whole.{whole, finish}
-use Rattle.reset_play.proofs.Ending.{weight, weight_most}
+use Rattle.reference_machine.specs.declared.unit.End.{End}
+use Rattle.reference_machine.specs.Boots.{BootTask, BootState, Course, after_unit, next, after_steps, boot_start, boot_of, boot_tasks, course_of}
+use Rattle.reference_machine.specs.Boots.BootTask.{Settles, Unstages, Does, Prunes, Removes, Clears}
+use Rattle.reference_machine.specs.Boots.Course.{Claim, Close}
+use Rattle.reference_machine.specs.Deliveries.{BootUnit}
+use Rattle.reference_machine.specs.Formats.{Formats}
+use Rattle.reference_machine.specs.Machine.{Machine}
+use Rattle.reference_machine.specs.Report.{ReportValue}
+use Rattle.reset_play.specs.Whole.{task_done, tasks_done}
+use Rattle.reference_machine.proofs.Ending.{weight, weight_most}
 
 -- the first step, and then the others
-steps_first : (f : Formats) (n : ℕ) (b : Progress) → after_steps f (suc n) b ≡ after_steps f n (next f b)
+steps_first : (f : Formats) (n : ℕ) (b : BootState) → after_steps f (suc n) b ≡ after_steps f n (next f b)
 steps_first f zero b = refl
 steps_first f (suc n) b = ap (next f) (steps_first f n b)
 
-abbrev pub progress : Machine → List Work → Reported → Progress
+abbrev pub progress : Machine → List BootTask → ReportValue → BootState
 progress m left r = record { machine = m; left = left; report = r }
 
-ended_stays : (f : Formats) (n : ℕ) (m : Machine) (r : Reported) → after_steps f n (progress m [] r) ≡ progress m [] r
+ended_stays : (f : Formats) (n : ℕ) (m : Machine) (r : ReportValue) → after_steps f n (progress m [] r) ≡ progress m [] r
 ended_stays f zero m r = refl
 ended_stays f (suc n) m r = ap (next f) (ended_stays f n m r)
 
-abbrev Finishes : Formats → List Work → Type 0
-Finishes f left = (n : ℕ) (m : Machine) (r : Reported) → weight left ≤ n → after_steps f n (progress m left r) ≡ finish f (progress m [] r) left
+abbrev Finishes : Formats → List BootTask → Type 0
+Finishes f left = (n : ℕ) (m : Machine) (r : ReportValue) → weight left ≤ n → after_steps f n (progress m left r) ≡ tasks_done f (progress m [] r) left
 
-unit_steps : (f : Formats) (u : BootUnit) (rest : List Work) → Finishes f rest → (n : ℕ) (m : Machine) (r : Reported) (c : Course) → weight rest + 1 ≤ n
-    → after_steps f n (after_unit f (progress m (Does u ∷ rest) r) u rest c) ≡ finish f (next f (after_unit f (progress m (Does u ∷ []) r) u [] c)) rest
+unit_steps : (f : Formats) (u : BootUnit) (rest : List BootTask) → Finishes f rest → (n : ℕ) (m : Machine) (r : ReportValue) (c : Course) → weight rest + 1 ≤ n
+    → after_steps f n (after_unit f (progress m (Does u ∷ rest) r) u rest c) ≡ tasks_done f (next f (after_unit f (progress m (Does u ∷ []) r) u [] c)) rest
 unit_steps f u rest ih zero m r c h = absurd (omega arith)
 unit_steps f u rest ih (suc n) m r Claim h =
-    let p : Progress = after_unit f (progress m (Does u ∷ rest) r) u rest Claim in
-    let b : Progress = next f p in
+    let p : BootState = after_unit f (progress m (Does u ∷ rest) r) u rest Claim in
+    let b : BootState = next f p in
     let le : weight rest ≤ n = omega arith in
     steps_first f n p ∙ ih n b.machine b.report le
 unit_steps f u rest ih (suc n) m r (Close end) h =
-    let b : Progress = after_unit f (progress m (Does u ∷ rest) r) u rest (Close end) in
+    let b : BootState = after_unit f (progress m (Does u ∷ rest) r) u rest (Close end) in
     let le : weight rest ≤ suc n = omega arith in
     ih (suc n) b.machine b.report le
 
-pub finish_steps : (f : Formats) (left : List Work) → Finishes f left
+pub finish_steps : (f : Formats) (left : List BootTask) → Finishes f left
 finish_steps f [] n m r h = ended_stays f n m r
 finish_steps f (Does u ∷ rest) zero m r h = absurd (omega arith)
 finish_steps f (Does u ∷ rest) (suc n) m r h =
@@ -47,35 +47,35 @@ finish_steps f (Does u ∷ rest) (suc n) m r h =
     steps_first f n (progress m (Does u ∷ rest) r) ∙ unit_steps f u rest (finish_steps f rest) n m r (course_of f m u u.kind) le
 finish_steps f (Settles kind end ∷ rest) zero m r h = absurd (omega arith)
 finish_steps f (Settles kind end ∷ rest) (suc n) m r h =
-    let b : Progress = next f (progress m (Settles kind end ∷ rest) r) in
+    let b : BootState = next f (progress m (Settles kind end ∷ rest) r) in
     let le : weight rest ≤ n = omega arith in
     steps_first f n (progress m (Settles kind end ∷ rest) r) ∙ finish_steps f rest n b.machine b.report le
 finish_steps f (Unstages pair ∷ rest) zero m r h = absurd (omega arith)
 finish_steps f (Unstages pair ∷ rest) (suc n) m r h =
-    let b : Progress = next f (progress m (Unstages pair ∷ rest) r) in
+    let b : BootState = next f (progress m (Unstages pair ∷ rest) r) in
     let le : weight rest ≤ n = omega arith in
     steps_first f n (progress m (Unstages pair ∷ rest) r) ∙ finish_steps f rest n b.machine b.report le
 finish_steps f (Prunes ∷ rest) zero m r h = absurd (omega arith)
 finish_steps f (Prunes ∷ rest) (suc n) m r h =
-    let b : Progress = next f (progress m (Prunes ∷ rest) r) in
+    let b : BootState = next f (progress m (Prunes ∷ rest) r) in
     let le : weight rest ≤ n = omega arith in
     steps_first f n (progress m (Prunes ∷ rest) r) ∙ finish_steps f rest n b.machine b.report le
 finish_steps f (Removes serial ∷ rest) zero m r h = absurd (omega arith)
 finish_steps f (Removes serial ∷ rest) (suc n) m r h =
-    let b : Progress = next f (progress m (Removes serial ∷ rest) r) in
+    let b : BootState = next f (progress m (Removes serial ∷ rest) r) in
     let le : weight rest ≤ n = omega arith in
     steps_first f n (progress m (Removes serial ∷ rest) r) ∙ finish_steps f rest n b.machine b.report le
 finish_steps f (Clears ∷ rest) zero m r h = absurd (omega arith)
 finish_steps f (Clears ∷ rest) (suc n) m r h =
-    let b : Progress = next f (progress m (Clears ∷ rest) r) in
+    let b : BootState = next f (progress m (Clears ∷ rest) r) in
     let le : weight rest ≤ n = omega arith in
     steps_first f n (progress m (Clears ∷ rest) r) ∙ finish_steps f rest n b.machine b.report le
 
 -- a whole boot is all its work, done piece by piece
-pub boot_finish : (f : Formats) (m : Machine) (h : End) → boot_of f m h ≡ finish f (progress m [] (boot_start f m h).report) (boot_work f m h)
-boot_finish f m h = finish_steps f (boot_work f m h) (2 * length (boot_work f m h)) m (boot_start f m h).report (weight_most (boot_work f m h))
+pub boot_finish : (f : Formats) (m : Machine) (h : End) → boot_of f m h ≡ tasks_done f (progress m [] (boot_start f m h).report) (boot_tasks f m h)
+boot_finish f m h = finish_steps f (boot_tasks f m h) (2 * length (boot_tasks f m h)) m (boot_start f m h).report (weight_most (boot_tasks f m h))
 
 -- work in two parts
-pub finish_append : (f : Formats) (xs ys : List Work) (b : Progress) → finish f b (xs ++ ys) ≡ finish f (finish f b xs) ys
+pub finish_append : (f : Formats) (xs ys : List BootTask) (b : BootState) → tasks_done f b (xs ++ ys) ≡ tasks_done f (tasks_done f b xs) ys
 finish_append f [] ys b = refl
-finish_append f (x ∷ xs) ys b = finish_append f xs ys (whole f b x)
+finish_append f (x ∷ xs) ys b = finish_append f xs ys (task_done f b x)

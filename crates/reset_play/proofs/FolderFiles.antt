@@ -3,14 +3,14 @@ use Rattle.std.proofs.Common.{◌≡◌, ℕ, suc, ◌+◌, ◌≤◌, ◌<◌, 
 use Rattle.std.proofs.lemmas.Bool.Decides.{nat_tests}
 use Rattle.std.specs.List.{list_any, list_all}
 use Rattle.bench_model.specs.Boards.{BoardValue}
-use Rattle.reset_play.specs.declared.limits.TheConstants.{MAX_FILES}
-use Rattle.reset_play.specs.Events.{Outcome}
-use Rattle.reset_play.specs.Machine.{File, first_moment}
+use Rattle.reference_machine.specs.declared.limits.TheConstants.{MAX_FILES}
+use Rattle.reference_machine.specs.Events.{Outcome}
+use Rattle.reference_machine.specs.Machine.{File, first_moment}
 use Rattle.reset_play.specs.Plays.{is_thin_on}
-use Rattle.reset_play.specs.Spent.{Element}
-use Rattle.reset_play.specs.Told.{Said}
-use Rattle.reset_play.specs.Whole.{IsPlatform}
-use Rattle.reset_play.proofs.OneUnit.{both_left, both_right}
+use Rattle.reference_machine.specs.Spent.{Element}
+use Rattle.reference_machine.specs.TraceValues.{EntryValue}
+use Rattle.reset_play.specs.Whole.{IsListPlatform}
+use Rattle.reference_machine.proofs.Tests.{both_left, both_right}
 
 filter_short : {X : Type 0} (keep : X → Bool) (xs : List X) → length (filter keep xs) ≤ length xs
 filter_short keep [] = omega arith
@@ -31,7 +31,7 @@ filter_all p keep (x ∷ xs) all =
     both false b h k = h
 
 -- fewer files
-pub fewer_files : (board : BoardValue) (keep : File → Bool) (files : List File) (done : List Element) (claimed : Option Element) → IsPlatform board files done claimed → IsPlatform board (filter keep files) done claimed
+pub fewer_files : (board : BoardValue) (keep : File → Bool) (files : List File) (done : List Element) (claimed : Option Element) → IsListPlatform board files done claimed → IsListPlatform board (filter keep files) done claimed
 fewer_files board keep files done claimed p =
     let short : length (filter keep files) ≤ length files = filter_short keep files in
     let few : length files ≤ MAX_FILES = p.few in
@@ -62,7 +62,7 @@ length_more [] y = refl
 length_more (x ∷ xs) y = let h : length (xs ++ y ∷ []) ≡ length xs + 1 = length_more xs y in omega arith
 
 -- a file in place of those that are gone, where there is room
-pub one_file_more : (board : BoardValue) (gone : File → Bool) (files : List File) (file : File) (done : List Element) (claimed : Option Element) → IsPlatform board files done claimed → IsTrue (is_thin_on board file.bytes) → (list_any gone files ≡ false → length files < MAX_FILES) → IsPlatform board (filter (λ x. not (gone x)) files ++ file ∷ []) done claimed
+pub one_file_more : (board : BoardValue) (gone : File → Bool) (files : List File) (file : File) (done : List Element) (claimed : Option Element) → IsListPlatform board files done claimed → IsTrue (is_thin_on board file.bytes) → (list_any gone files ≡ false → length files < MAX_FILES) → IsListPlatform board (filter (λ x. not (gone x)) files ++ file ∷ []) done claimed
 one_file_more board gone files file done claimed p on room =
     record {
       one = p.one;
@@ -103,8 +103,8 @@ pub room_left : (files : List File) (known last : Bool) → (nat_le MAX_FILES (l
 room_left files known last h e = above MAX_FILES (length files) (no_room (nat_le MAX_FILES (length files)) known last h e)
 
 -- an outcome of a platform, by its parts
-abbrev pub outcome_of : Said → BoardValue → List File → ℕ → Bool → List Element → List ℕ → ℕ → Outcome
-outcome_of said board files last asked list kept batches = (
+abbrev pub outcome_of : EntryValue → BoardValue → List File → ℕ → Bool → List Element → List ℕ → ℕ → Outcome
+outcome_of said board files last asked list in_progress batches = (
   said,
   record {
     board = board;
@@ -114,15 +114,15 @@ outcome_of said board files last asked list kept batches = (
     memory = [];
     staged = [];
     last_staged = 0;
-    bit = asked;
+    is_signalled = asked;
     list = list;
-    kept = kept;
+    in_progress = in_progress;
     batches = batches;
     failed = false;
   },
 )
 
-pub dropped_same : (said said' : Said) (board : BoardValue) (files files' : List File) (last : ℕ) (asked : Bool) (list : List Element) (kept : List ℕ) (batches : ℕ) → said ≡ said' → files ≡ files'
-    → outcome_of said board files last asked list kept batches ≡ outcome_of said' board files' last asked list kept batches
-dropped_same said said' board files files' last asked list kept batches s f =
-    ap (λ x. outcome_of x board files last asked list kept batches) s ∙ ap (λ x. outcome_of said' board x last asked list kept batches) f
+pub dropped_same : (said said' : EntryValue) (board : BoardValue) (files files' : List File) (last : ℕ) (asked : Bool) (list : List Element) (in_progress : List ℕ) (batches : ℕ) → said ≡ said' → files ≡ files'
+    → outcome_of said board files last asked list in_progress batches ≡ outcome_of said' board files' last asked list in_progress batches
+dropped_same said said' board files files' last asked list in_progress batches s f =
+    ap (λ x. outcome_of x board files last asked list in_progress batches) s ∙ ap (λ x. outcome_of said' board x last asked list in_progress batches) f

@@ -5,24 +5,17 @@ use Rattle.std.proofs.lemmas.Bool.Decides.{nat_tests}
 use Rattle.std.specs.List.{list_any, list_all, enumerate_from}
 use Rattle.bench_model.specs.Boards.{BoardValue}
 use Rattle.bench_model.specs.Devices.{DeviceValue}
-use Rattle.reset_play.specs.Boots.{file_work, file_delivery}
-use Rattle.reset_play.specs.Boots.Work.{Does, Removes}
-use Rattle.reset_play.specs.Deliveries.{BootUnit, units, targets, is_target}
-use Rattle.reset_play.specs.Formats.{ItemHead}
-use Rattle.reset_play.specs.Machine.{File, Machine}
-use Rattle.reset_play.specs.Order.{in_order, inserted}
+use Rattle.reference_machine.specs.Boots.{file_tasks, file_delivery}
+use Rattle.reference_machine.specs.Boots.BootTask.{Does, Removes}
+use Rattle.reference_machine.specs.Deliveries.{BootUnit, units, targets, is_target}
+use Rattle.reference_machine.specs.Formats.{ItemHead}
+use Rattle.reference_machine.specs.Machine.{File, Machine}
+use Rattle.reference_machine.specs.Order.{in_order, inserted}
 use Rattle.reset_play.specs.Plays.{has_one_device, is_thin_on}
-use Rattle.reset_play.specs.Spent.{spent}
+use Rattle.reference_machine.specs.Spent.{spent}
 use Rattle.reset_play.specs.Thin.{thin, thin_item, is_thin}
-use Rattle.reset_play.specs.Whole.{file_unit, marked_work, marked_works, marks_of}
-
-pub both_left : (a b : Bool) → IsTrue (a && b) → a ≡ true
-both_left true b h = refl
-both_left false b h = cc
-
-pub both_right : (a b : Bool) → IsTrue (a && b) → b ≡ true
-both_right true b h = h
-both_right false b h = cc
+use Rattle.reset_play.specs.Whole.{file_unit, marked_tasks, all_marked_tasks, marks_of}
+use Rattle.reference_machine.proofs.Tests.{both_left, both_right}
 
 either_left : (a : Bool) → (a || false) ≡ true → a ≡ true
 either_left true h = refl
@@ -57,18 +50,18 @@ drop_one (suc n) u =
     no_units = []
 
 -- the work on it, by whether the unit is spent
-pub work_one : (m : Machine) (x : File) → IsTrue (has_one_device m.board) → IsTrue (is_thin_on m.board x.bytes) → file_work thin m x ≡ marked_work x (not (spent m.list x.serial == 0))
+pub work_one : (m : Machine) (x : File) → IsTrue (has_one_device m.board) → IsTrue (is_thin_on m.board x.bytes) → file_tasks thin m x ≡ marked_tasks x (not (spent m.list x.serial == 0))
 work_one m x one on =
     ap (λ us. map Does (drop (spent m.list x.serial) us) ++ Removes x.serial ∷ []) (units_one m.board x one on)
     ∙ ap (λ w. w ++ Removes x.serial ∷ []) (drop_one (spent m.list x.serial) (file_unit x))
 
 -- the work on such files
-pub works_marked : (m : Machine) (xs : List File) → IsTrue (has_one_device m.board) → IsTrue (list_all (λ (x : File). is_thin_on m.board x.bytes) xs) → flat_map (file_work thin m) xs ≡ marked_works xs (marks_of m.list xs)
+pub works_marked : (m : Machine) (xs : List File) → IsTrue (has_one_device m.board) → IsTrue (list_all (λ (x : File). is_thin_on m.board x.bytes) xs) → flat_map (file_tasks thin m) xs ≡ all_marked_tasks xs (marks_of m.list xs)
 works_marked m [] one all = refl
 works_marked m (x ∷ xs) one all =
-    let head : file_work thin m x ≡ marked_work x (not (spent m.list x.serial == 0)) = work_one m x one (both_left _ _ all) in
-    let tail : flat_map (file_work thin m) xs ≡ marked_works xs (marks_of m.list xs) = works_marked m xs one (both_right (is_thin_on m.board x.bytes) _ all) in
-    ap (λ w. w ++ flat_map (file_work thin m) xs) head ∙ ap (λ w. marked_work x (not (spent m.list x.serial == 0)) ++ w) tail
+    let head : file_tasks thin m x ≡ marked_tasks x (not (spent m.list x.serial == 0)) = work_one m x one (both_left _ _ all) in
+    let tail : flat_map (file_tasks thin m) xs ≡ all_marked_tasks xs (marks_of m.list xs) = works_marked m xs one (both_right (is_thin_on m.board x.bytes) _ all) in
+    ap (λ w. w ++ flat_map (file_tasks thin m) xs) head ∙ ap (λ w. marked_tasks x (not (spent m.list x.serial == 0)) ++ w) tail
 
 both : (a b : Bool) → a ≡ true → b ≡ true → IsTrue (a && b)
 both true true h k = refl
@@ -79,26 +72,14 @@ both false b h k = h
 inserted_all : {X : Type 0} (p : X → Bool) (before : X → X → Bool) (x : X) (ys : List X) → p x ≡ true → IsTrue (list_all p ys) → IsTrue (list_all p (inserted before x ys))
 inserted_all p before x [] h all = both (p x) true h refl
 inserted_all p before x (y ∷ ys) h all =
-    elim (before x y) as (λ b. IsTrue (list_all p (cond b (x ∷ y ∷ ys) (y ∷ inserted before x ys)))) [
-      | true ↦ both (p x) (list_all p (y ∷ ys)) h all
-      | false ↦ both (p y) (list_all p (inserted before x ys)) (both_left (p y) _ all) (inserted_all p before x ys h (both_right (p y) _ all))
+    elim (before y x) as (λ b. IsTrue (list_all p (cond b (y ∷ inserted before x ys) (x ∷ y ∷ ys)))) [
+      | true ↦ both (p y) (list_all p (inserted before x ys)) (both_left (p y) _ all) (inserted_all p before x ys h (both_right (p y) _ all))
+      | false ↦ both (p x) (list_all p (y ∷ ys)) h all
     ]
 
 pub ordered_all : {X : Type 0} (p : X → Bool) (before : X → X → Bool) (xs : List X) → IsTrue (list_all p xs) → IsTrue (list_all p (in_order before xs))
 ordered_all p before [] all = refl
 ordered_all p before (x ∷ xs) all = inserted_all p before x (in_order before xs) (both_left (p x) _ all) (ordered_all p before xs (both_right (p x) _ all))
-
-inserted_length : {X : Type 0} (before : X → X → Bool) (x : X) (ys : List X) → length (inserted before x ys) ≡ suc (length ys)
-inserted_length before x [] = refl
-inserted_length before x (y ∷ ys) =
-    elim (before x y) as (λ b. length (cond b (x ∷ y ∷ ys) (y ∷ inserted before x ys)) ≡ suc (suc (length ys))) [
-      | true ↦ refl
-      | false ↦ ap suc (inserted_length before x ys)
-    ]
-
-pub ordered_length : {X : Type 0} (before : X → X → Bool) (xs : List X) → length (in_order before xs) ≡ length xs
-ordered_length before [] = refl
-ordered_length before (x ∷ xs) = inserted_length before x (in_order before xs) ∙ ap suc (ordered_length before xs)
 
 -- what holds of all items holds of each
 pub all_at : {X : Type 0} (p : X → Bool) (xs : List X) (i : ℕ) (d : X) → i < length xs → IsTrue (list_all p xs) → IsTrue (p (get_or xs i d))

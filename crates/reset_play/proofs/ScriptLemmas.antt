@@ -7,9 +7,9 @@ use Rattle.std.proofs.lemmas.List.{take_all, length_push}
 use Rattle.std.proofs.lemmas.List.Splits.{slice_split_first, slice_split_none}
 use Rattle.std.proofs.lemmas.List.Sums.{prefix_len_passes}
 use Rattle.std.specs.List.{prefix_len}
-use Rattle.reset_play.specs.declared.event.Event.{Event}
+use Rattle.reference_machine.specs.declared.event.Event.{Event}
 use Rattle.reset_play.specs.declared.script.limits.TheConstants.{MAX_EVENTS}
-use Rattle.reset_play.specs.ScriptText.{Said, behind, line_said, lines_said}
+use Rattle.reset_play.specs.ScriptText.{ScriptSaid, behind, line_said, lines_said}
 use Rattle.reset_play.specs.ScriptWords.{parts, parts_behind, decimal_behind, hex_behind, hex_value, hex_pairs}
 
 -- the parts of a text that has a mark, and of one that has none
@@ -74,11 +74,11 @@ pub pairs_more : (digits : List ℕ) (i : ℕ) → suc i < length digits
 pairs_more digits i within =
     ap hex_pairs (drop-cons digits i 0 (omega arith) ∙ ap (λ (rest : List ℕ). get_or digits i 0 ∷ rest) (drop-cons digits (suc i) 0 within))
 
-abbrev all_read : List Event → Said
+abbrev all_read : List Event → ScriptSaid
 all_read events = Ok events
 
 -- what stands before events stands before the events behind them
-behind_behind : (before events : List Event) (said : Said) → behind before (behind events said) ≡ behind (before ++ events) said
+behind_behind : (before events : List Event) (said : ScriptSaid) → behind before (behind events said) ≡ behind (before ++ events) said
 behind_behind before events (Ok more) = ap all_read (sym (append_assoc before events more))
 behind_behind before events (Err fault) = refl
 

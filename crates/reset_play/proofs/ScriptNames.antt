@@ -7,10 +7,10 @@ use Rattle.std.proofs.lemmas.List.Folds.{list_any-append}
 use Rattle.std.proofs.lemmas.Slice.Eq.{bytes_eq-Decides}
 use Rattle.std.specs.List.{filter, filter_map, cons_option}
 use Rattle.std.specs.Str.{bytes_eq}
-use Rattle.reset_play.specs.declared.event.Event.{Event}
-use Rattle.reset_play.specs.Laws.{Distinct}
+use Rattle.reference_machine.specs.declared.event.Event.{Event}
+use Rattle.reference_machine.specs.Laws.{Distinct}
 use Rattle.reset_play.specs.ScriptInputs.{mention, once, has_name, with_name, with_mention, inputs_of}
-use Rattle.reset_play.proofs.Apart.{all_imply, kept_pass, distinct_kept, no_longer}
+use Rattle.reference_machine.proofs.Apart.{all_imply, kept_pass, distinct_kept, no_longer}
 
 -- names beside other names, and what events name beside them
 abbrev pub beside : List (List ℕ) → List (List ℕ) → List (List ℕ)

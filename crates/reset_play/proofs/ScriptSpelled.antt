@@ -17,13 +17,13 @@ use Rattle.cu_base.proofs.TimeLemmas.{shows_back}
 use Rattle.cu_base.specs.Times.{days_in, is_in_calendar, moment, time_text}
 use Rattle.cu_base.specs.declared.faults.BaseFault.{BaseFault}
 use Rattle.cu_base.specs.declared.time.EfiTime.{EfiTime}
-use Rattle.reset_play.specs.declared.event.Event.{Event}
-use Rattle.reset_play.specs.declared.event.Event.TheVariants.{Time, Drop, Signal, Lay, Poke, Stage, Boot, Arm, Fail, Reset, Show}
+use Rattle.reference_machine.specs.declared.event.Event.{Event}
+use Rattle.reference_machine.specs.declared.event.Event.TheVariants.{Time, Drop, Signal, Lay, Poke, Stage, Boot, Arm, Fail, Reset, Show}
 use Rattle.reset_play.specs.declared.script.faults.ScriptKind.{ScriptKind}
 use Rattle.reset_play.specs.declared.script.faults.ScriptKind.TheVariants.{BadOperand, BadText}
 use Rattle.reset_play.specs.declared.script.limits.TheConstants.{MAX_COUNT, MAX_EVENTS, MAX_POKE_BYTES}
 use Rattle.reset_play.specs.ScriptEvents.{choice}
-use Rattle.reset_play.specs.ScriptText.{Said, event_of_words, is_plain, is_skipped, line_said, lines_said, script_said, with_line}
+use Rattle.reset_play.specs.ScriptText.{ScriptSaid, event_of_words, is_plain, is_skipped, line_said, lines_said, script_said, with_line}
 use Rattle.reset_play.specs.ScriptWords.{parts, is_within, is_name_byte, is_decimal, decimal_behind, number_within, is_hex_digit, hex_value, hex_behind, hex_number, hex_pairs, address, is_hex_bytes, hex_bytes, is_file_name, is_input_name}
 use Rattle.reset_play.specs.ScriptSpelling.{hex_text, pairs_text, choice_words, event_words, event_line, script_text, Fits, FitsChoice}
 
@@ -325,7 +325,7 @@ refused line event other said =
     let clash : Err BadText ≡ Ok (Some event) = sym bad ∙ said in
     cc
 
-with_event : (number before : ℕ) (line : List ℕ) (event : Event) (skipped taken : Said) (events : List Event)
+with_event : (number before : ℕ) (line : List ℕ) (event : Event) (skipped taken : ScriptSaid) (events : List Event)
     → line_said line ≡ Ok (Some event) → nat_lt before MAX_EVENTS ≡ true → taken ≡ Ok events
     → with_line number before (line_said line) skipped taken ≡ Ok (event ∷ events)
 with_event number before line event skipped taken events said room is = rw (said, room, is) refl

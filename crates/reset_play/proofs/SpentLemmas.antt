@@ -2,7 +2,7 @@
 use Rattle.std.proofs.Common.{◌≡◌, ◌∙◌, ap, sym, ◌+◌, ◌<◌, suc, drop, get_or, drop-cons, ℕ, ◌==◌, ◌&&◌, ◌||◌, max, Bool, true, false, cond, not, List, [], ◌∷◌, map, filter, length, refl, arith}
 use native.Mathlib.Numerals.{unary_clauses}
 use Rattle.std.specs.List.{list_any}
-use Rattle.reset_play.specs.Spent.{Element, is_on, is_sealed, greatest, sealed_floors}
+use Rattle.reference_machine.specs.Spent.{Element, is_on, is_sealed, greatest, sealed_floors}
 
 -- one number more
 pub greatest_more : (n m : ℕ) (ms : List ℕ) → greatest (max n m) ms ≡ max m (greatest n ms)

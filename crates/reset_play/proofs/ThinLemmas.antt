@@ -5,8 +5,8 @@ use Rattle.cu_base.specs.Fields.{field, number_at, number}
 use Rattle.std.specs.List.{list_any}
 use Rattle.bench_model.specs.Boards.{BoardValue}
 use Rattle.bench_model.specs.Devices.{DeviceValue}
-use Rattle.reset_play.specs.Deliveries.{is_target}
-use Rattle.reset_play.specs.Formats.{Item}
+use Rattle.reference_machine.specs.Deliveries.{is_target}
+use Rattle.reference_machine.specs.Formats.{Item}
 use Rattle.reset_play.specs.Plays.{is_thin_on}
 use Rattle.reset_play.specs.Thin.{is_thin, has_thin_header, has_thin_body, has_thin_image, thin_item}
 use Rattle.reset_play.specs.ThinValues.{thin_head, thin_said}

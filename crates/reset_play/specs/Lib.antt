@@ -1,14 +1,4 @@
-pub mod Boots
-pub mod Deliveries
-pub mod Events
-pub mod Formats
-pub mod Laws
-pub mod Machine
-pub mod Names
-pub mod Order
 pub mod Plays
-pub mod Report
-pub mod Results
 pub mod Samples
 pub mod ScriptAnswers
 pub mod ScriptEvents
@@ -16,10 +6,7 @@ pub mod ScriptInputs
 pub mod ScriptSpelling
 pub mod ScriptText
 pub mod ScriptWords
-pub mod Spent
 pub mod Texts
 pub mod Thin
 pub mod ThinValues
-pub mod Told
-pub mod Verdicts
 pub mod Whole

@@ -3,13 +3,13 @@ use Rattle.std.specs.Prelude.{ℕ, Bool, true, false, ◌&&◌, ◌==◌, List, 
 use Rattle.std.specs.List.{list_any}
 use Rattle.bench_model.specs.Boards.{BoardValue}
 use Rattle.cu_io.specs.Named.{Named, bytes_named}
-use Rattle.reset_play.specs.declared.event.Event.{Event}
-use Rattle.reset_play.specs.declared.event.Event.TheVariants.{Time, Drop, Signal, Lay, Poke, Stage, Boot, Arm, Fail, Reset, Show}
-use Rattle.reset_play.specs.Deliveries.{is_target}
-use Rattle.reset_play.specs.Events.{Act, act_of, trace_of}
-use Rattle.reset_play.specs.Machine.{fresh}
+use Rattle.reference_machine.specs.declared.event.Event.{Event}
+use Rattle.reference_machine.specs.declared.event.Event.TheVariants.{Time, Drop, Signal, Lay, Poke, Stage, Boot, Arm, Fail, Reset, Show}
+use Rattle.reference_machine.specs.Deliveries.{is_target}
+use Rattle.reference_machine.specs.Events.{Act, act_of, trace_of}
+use Rattle.reference_machine.specs.Machine.{fresh}
 use Rattle.reset_play.specs.Thin.{thin, thin_item, is_thin}
-use Rattle.reset_play.specs.Told.{Said}
+use Rattle.reference_machine.specs.TraceValues.{EntryValue}
 
 -- the board has one device
 abbrev pub has_one_device : BoardValue → Bool
@@ -56,5 +56,5 @@ abbrev pub acts_of : Named → List Event → List Act
 acts_of named events = map (act_of (loaded_bytes named)) events
 
 -- what the reference machine tells of the events, from a fresh board
-abbrev pub thin_trace : BoardValue → Named → List Event → List Said
+abbrev pub thin_trace : BoardValue → Named → List Event → List EntryValue
 thin_trace board named events = trace_of thin (fresh board) (acts_of named events)

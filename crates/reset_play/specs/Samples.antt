@@ -2,12 +2,12 @@
 use Rattle.std.specs.Prelude.{ℕ, ◌+◌, not, List, [], ◌∷◌, ◌++◌, length, map, filter, flat_map, find, codes, bytes_eq, option_map, unwrap_or}
 use Rattle.sha2.specs.Sha256.{sha256}
 use Rattle.cu_base.specs.declared.digest.Digest.{Digest}
-use Rattle.reset_play.specs.declared.event.Event.{Event}
-use Rattle.reset_play.specs.declared.event.Event.TheVariants as events
+use Rattle.reference_machine.specs.declared.event.Event.{Event}
+use Rattle.reference_machine.specs.declared.event.Event.TheVariants as events
 use Rattle.bench_model.specs.Boards.{BoardValue}
 use Rattle.bench_model.specs.Devices.{DeviceValue}
-use Rattle.reset_play.specs.Events.{act_of, trace_of}
-use Rattle.reset_play.specs.Machine.{fresh}
+use Rattle.reference_machine.specs.Events.{act_of, trace_of}
+use Rattle.reference_machine.specs.Machine.{fresh}
 use Rattle.reset_play.specs.Texts.{trace_text}
 use Rattle.reset_play.specs.Thin.{thin}
 

@@ -5,8 +5,8 @@ use Rattle.std.specs.Str.{bytes_eq}
 use Rattle.cu_base.specs.Times.{time_of_text, ◌>>=◌}
 use Rattle.bench_model.specs.declared.choice.Choice.{Choice}
 use Rattle.bench_model.specs.declared.choice.Choice.TheVariants.{New, Old, Mix, Fill}
-use Rattle.reset_play.specs.declared.event.Event.{Event}
-use Rattle.reset_play.specs.declared.event.Event.TheVariants as events
+use Rattle.reference_machine.specs.declared.event.Event.{Event}
+use Rattle.reference_machine.specs.declared.event.Event.TheVariants as events
 use Rattle.reset_play.specs.declared.script.limits.TheConstants.{MAX_COUNT}
 use Rattle.reset_play.specs.declared.script.faults.ScriptKind.{ScriptKind}
 use Rattle.reset_play.specs.declared.script.faults.ScriptKind.TheVariants.{BadEvent, BadOperand}

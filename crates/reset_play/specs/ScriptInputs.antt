@@ -2,8 +2,8 @@
 use Rattle.std.specs.Prelude.{ℕ, Bool, not, if◌then◌else◌, List, [], ◌∷◌, ◌++◌, filter, Option, Some, None}
 use Rattle.std.specs.List.{filter_map, list_any}
 use Rattle.std.specs.Str.{bytes_eq}
-use Rattle.reset_play.specs.declared.event.Event.{Event}
-use Rattle.reset_play.specs.declared.event.Event.TheVariants.{Time, Drop, Signal, Lay, Poke, Stage, Boot, Arm, Fail, Reset, Show}
+use Rattle.reference_machine.specs.declared.event.Event.{Event}
+use Rattle.reference_machine.specs.declared.event.Event.TheVariants.{Time, Drop, Signal, Lay, Poke, Stage, Boot, Arm, Fail, Reset, Show}
 
 -- the input that an event names
 abbrev pub mention : Event → Option (List ℕ)

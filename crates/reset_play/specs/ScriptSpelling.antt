@@ -5,8 +5,8 @@ use Rattle.std.specs.List.{AllByRecursion, join_with_byte}
 use Rattle.bench_model.specs.declared.choice.Choice.{Choice}
 use Rattle.bench_model.specs.declared.choice.Choice.TheVariants.{New, Old, Mix, Fill}
 use Rattle.cu_base.specs.Times.{is_in_calendar, moment, time_text}
-use Rattle.reset_play.specs.declared.event.Event.{Event}
-use Rattle.reset_play.specs.declared.event.Event.TheVariants.{Time, Drop, Signal, Lay, Poke, Stage, Boot, Arm, Fail, Reset, Show}
+use Rattle.reference_machine.specs.declared.event.Event.{Event}
+use Rattle.reference_machine.specs.declared.event.Event.TheVariants.{Time, Drop, Signal, Lay, Poke, Stage, Boot, Arm, Fail, Reset, Show}
 use Rattle.reset_play.specs.declared.script.limits.TheConstants.{MAX_COUNT, MAX_POKE_BYTES}
 use Rattle.reset_play.specs.ScriptWords.{is_file_name, is_input_name}
 

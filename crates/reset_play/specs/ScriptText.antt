@@ -1,7 +1,7 @@
 -- The text of a script: lines with a line feed between any two, each of them skipped, an event or refused.
 use Rattle.std.specs.Prelude.{ℕ, ◌+◌, Bool, ◌||◌, not, ◌==◌, nat_lt, if◌then◌else◌, List, [], ◌∷◌, ◌++◌, length, slice_index, Option, Some, None, Result, Ok, Err}
 use Rattle.std.specs.List.{list_all}
-use Rattle.reset_play.specs.declared.event.Event.{Event}
+use Rattle.reference_machine.specs.declared.event.Event.{Event}
 use Rattle.reset_play.specs.declared.script.limits.TheConstants.{MAX_EVENTS}
 use Rattle.reset_play.specs.declared.script.faults.ScriptKind.{ScriptKind}
 use Rattle.reset_play.specs.declared.script.faults.ScriptKind.TheVariants.{BadText, BadEvent, TooMany}
@@ -34,16 +34,16 @@ line_said line =
     else as_event (event_of_words (words line))
 
 -- the events of lines, or the first fault
-abbrev pub Said : Type 0
-Said = Result (List Event) (ℕ × ScriptKind)
+abbrev pub ScriptSaid : Type 0
+ScriptSaid = Result (List Event) (ℕ × ScriptKind)
 
 -- events, and then those of what is left
-abbrev pub behind : List Event → Said → Said
+abbrev pub behind : List Event → ScriptSaid → ScriptSaid
 behind events (Ok more) = Ok (events ++ more)
 behind events (Err fault) = Err fault
 
 -- what a script says from a line on: that of this line, with that of the lines behind it
-abbrev pub with_line : ℕ → ℕ → Result (Option Event) ScriptKind → Said → Said → Said
+abbrev pub with_line : ℕ → ℕ → Result (Option Event) ScriptKind → ScriptSaid → ScriptSaid → ScriptSaid
 with_line line before (Err kind) skipped taken = Err (line, kind)
 with_line line before (Ok None) skipped taken = skipped
 with_line line before (Ok (Some event)) skipped taken =
@@ -51,11 +51,11 @@ with_line line before (Ok (Some event)) skipped taken =
 
 -- what lines say, where the first has this number and so many events stand before it: their events, or the number of the
 -- first line that is refused, and why
-abbrev pub lines_said : ℕ → ℕ → List (List ℕ) → Said
+abbrev pub lines_said : ℕ → ℕ → List (List ℕ) → ScriptSaid
 lines_said line before [] = Ok []
 lines_said line before (text ∷ lines) =
     with_line line before (line_said text) (lines_said (line + 1) before lines) (lines_said (line + 1) (before + 1) lines)
 
 -- what a whole text says
-abbrev pub script_said : List ℕ → Said
+abbrev pub script_said : List ℕ → ScriptSaid
 script_said text = lines_said 1 0 (parts 10 text)

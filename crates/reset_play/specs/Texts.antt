@@ -5,21 +5,21 @@ use Rattle.std.specs.Fmt.{digit_glyph, radix_digits}
 use Rattle.cu_base.specs.declared.status.EfiStatus.{EfiStatus}
 use Rattle.cu_base.specs.declared.ticket.Ticket.{Ticket}
 use Rattle.cu_base.specs.Guids.{guid_text}
-use Rattle.reset_play.specs.declared.event.Event.{Event}
-use Rattle.reset_play.specs.declared.event.Event.TheVariants as events
-use Rattle.reset_play.specs.declared.snapshot.CapsuleResult.{CapsuleResult}
-use Rattle.reset_play.specs.declared.snapshot.EsrtEntry.{EsrtEntry}
-use Rattle.reset_play.specs.declared.snapshot.FmpResult.{FmpResult}
-use Rattle.reset_play.specs.declared.snapshot.FolderFile.{FolderFile}
-use Rattle.reset_play.specs.declared.snapshot.StagedPair.{StagedPair}
-use Rattle.reset_play.specs.declared.trace.BootEnd.{BootEnd}
-use Rattle.reset_play.specs.declared.trace.BootEnd.TheVariants as ends
-use Rattle.reset_play.specs.declared.unit.Kind.{Kind}
-use Rattle.reset_play.specs.declared.unit.Kind.TheVariants.{Try, Heal, Skip, NoTarget, Bad}
-use Rattle.reset_play.specs.declared.unit.UnitLine.{UnitLine}
+use Rattle.reference_machine.specs.declared.event.Event.{Event}
+use Rattle.reference_machine.specs.declared.event.Event.TheVariants as events
+use Rattle.reference_machine.specs.declared.snapshot.CapsuleResult.{CapsuleResult}
+use Rattle.reference_machine.specs.declared.snapshot.EsrtEntry.{EsrtEntry}
+use Rattle.reference_machine.specs.declared.snapshot.FmpResult.{FmpResult}
+use Rattle.reference_machine.specs.declared.snapshot.FolderFile.{FolderFile}
+use Rattle.reference_machine.specs.declared.snapshot.StagedPair.{StagedPair}
+use Rattle.reference_machine.specs.declared.trace.BootEnd.{BootEnd}
+use Rattle.reference_machine.specs.declared.trace.BootEnd.TheVariants as ends
+use Rattle.reference_machine.specs.declared.unit.Kind.{Kind}
+use Rattle.reference_machine.specs.declared.unit.Kind.TheVariants.{Try, Heal, Skip, NoTarget, Bad}
+use Rattle.reference_machine.specs.declared.unit.UnitLine.{UnitLine}
 use Rattle.bench_model.specs.Boards.{BoardValue}
-use Rattle.reset_play.specs.Told.{Told, Picture}
-use Rattle.reset_play.specs.Told.Told.{Done, Serial, FlashFault, VolumeFault, NoBank, Full, Wraps, Invalid, Unsupported, Resources, Booted, Shown}
+use Rattle.reference_machine.specs.TraceValues.{AnswerValue, SnapshotValue}
+use Rattle.reference_machine.specs.TraceValues.AnswerValue.{Done, Serial, FlashFault, VolumeFault, NoBank, Full, Wraps, Invalid, Unsupported, Resources, Booted, Shown}
 
 -- words, each with a space before it
 abbrev pub parts : List (List ℕ) → List ℕ
@@ -137,12 +137,12 @@ abbrev pub staged_text : StagedPair → List ℕ
 staged_text p = indented (codes "staged") (decimal p.serial ∷ radix_digits 16 false p.address ∷ [])
 
 -- what the platform shows: the ESRT, the results, the last of them, the files and the staged deliveries
-abbrev pub picture_text : Picture → List ℕ
+abbrev pub picture_text : SnapshotValue → List ℕ
 picture_text p =
     flat_map esrt_text p.esrt ++ flat_map result_text p.results ++ last_text p.last ++ flat_map file_text p.files ++ flat_map staged_text p.staged
 
 -- the lines before an event's own
-abbrev pub lines_before : BoardValue → Told → List ℕ
+abbrev pub lines_before : BoardValue → AnswerValue → List ℕ
 lines_before board Done = []
 lines_before board (Serial serial) = []
 lines_before board FlashFault = []
@@ -154,7 +154,7 @@ lines_before board Invalid = []
 lines_before board Unsupported = []
 lines_before board Resources = []
 lines_before board (Booted report end) = flat_map (unit_text board) report.lines
-lines_before board (Shown picture) = picture_text picture
+lines_before board (Shown snapshot) = picture_text snapshot
 
 -- the word of an event
 abbrev pub event_word : Event → List ℕ
@@ -178,7 +178,7 @@ end_word ends.Volume = codes "volume"
 end_word ends.NoBank = codes "nobank"
 
 -- the words of an answer
-abbrev pub answer_words : Told → List (List ℕ)
+abbrev pub answer_words : AnswerValue → List (List ℕ)
 answer_words Done = codes "ok" ∷ []
 answer_words (Serial serial) = codes "ok" ∷ decimal serial ∷ []
 answer_words FlashFault = codes "flash" ∷ []
@@ -190,18 +190,18 @@ answer_words Invalid = codes "invalid" ∷ []
 answer_words Unsupported = codes "unsupported" ∷ []
 answer_words Resources = codes "resources" ∷ []
 answer_words (Booted report end) = end_word end ∷ []
-answer_words (Shown picture) = codes "ok" ∷ []
+answer_words (Shown snapshot) = codes "ok" ∷ []
 
 -- the line of the n-th event
-abbrev pub event_line : ℕ → Event → Told → List ℕ
+abbrev pub event_line : ℕ → Event → AnswerValue → List ℕ
 event_line n event answer = line (decimal n) (event_word event ∷ answer_words answer)
 
 -- the lines of events from the n-th on, as far as there are answers
-abbrev pub entries_text : BoardValue → ℕ → List Event → List Told → List ℕ
+abbrev pub entries_text : BoardValue → ℕ → List Event → List AnswerValue → List ℕ
 entries_text board n [] answers = []
 entries_text board n (event ∷ events) [] = []
 entries_text board n (event ∷ events) (answer ∷ answers) = lines_before board answer ++ event_line n event answer ++ entries_text board (n + 1) events answers
 
 -- events count from 1; the last line tells how many there are
-abbrev pub trace_text : BoardValue → List Event → List Told → List ℕ
+abbrev pub trace_text : BoardValue → List Event → List AnswerValue → List ℕ
 trace_text board events answers = entries_text board 1 events answers ++ line (codes "done") (decimal (length events) ∷ [])

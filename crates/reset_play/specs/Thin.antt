@@ -3,8 +3,8 @@
 -- header is EDK II's FmpPayloadHeader).
 use Rattle.std.specs.Prelude.{ℕ, Bool, true, ◌+◌, ◌==◌, ◌&&◌, ◌||◌, not, nat_lt, nat_le, List, [], ◌∷◌, length, drop, bytes_eq, Option, None, Some, if◌then◌else◌}
 use Rattle.cu_base.specs.Fields.{field, number_at}
-use Rattle.reset_play.specs.Deliveries.{fmp_guid}
-use Rattle.reset_play.specs.Formats.{Item, Capsule, Parts, Formats}
+use Rattle.reference_machine.specs.Deliveries.{fmp_guid}
+use Rattle.reference_machine.specs.Formats.{Item, Capsule, Parts, Formats}
 
 -- the capsule header: the GUID at 0, HeaderSize at 16, CapsuleImageSize at 24
 abbrev pub has_thin_header : List ℕ → Bool
@@ -46,8 +46,18 @@ abbrev pub plain_parts : List ℕ → ℕ → Option Parts
 plain_parts image support =
     if is_refused image
     then None
-    else Some (record { version = number_at image 8 4; lowest = number_at image 12 4; payload = drop (number_at image 4 4) image; is_satisfied = λ versions. true })
+    else Some (record {
+      version = number_at image 8 4;
+      lowest = number_at image 12 4;
+      dependency = [];
+      payload = drop (number_at image 4 4) image;
+    })
 
--- the formats as far as thin deliveries by file need them
+-- the formats as far as thin deliveries by file need them: there is no dependency section to ask for
 abbrev pub thin : Formats
-thin = record { capsules = thin_capsules; parts = plain_parts; coalesced = λ memory address. None }
+thin = record {
+  capsules = thin_capsules;
+  parts = plain_parts;
+  is_satisfied = λ section versions. true;
+  coalesced = λ memory address. None;
+}

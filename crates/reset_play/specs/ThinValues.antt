@@ -1,17 +1,17 @@
 -- What the values of a play on lists say in the words of the reference machine.
-use Rattle.std.specs.Prelude.{ℕ, List, Option, None, Some, true, if◌then◌else◌}
+use Rattle.std.specs.Prelude.{ℕ, List, [], Option, None, Some, if◌then◌else◌}
 use Rattle.cu_base.specs.declared.guid.Guid.{Guid}
 use Rattle.reset_play.specs.declared.thin_play.delivery.ThinItem.{ThinItem}
 use Rattle.reset_play.specs.declared.thin_play.delivery.PlainParts.{PlainParts}
 use Rattle.reset_play.specs.declared.thin_play.spent.Standing.{Standing}
 use Rattle.reset_play.specs.declared.thin_play.spent.Standing.TheVariants as standing
-use Rattle.reset_play.specs.declared.unit.Kind.TheVariants.{Try}
-use Rattle.reset_play.specs.declared.unit.UnitKey.{UnitKey}
-use Rattle.reset_play.specs.Deliveries.{fmp_guid}
-use Rattle.reset_play.specs.Formats.{ItemHead, Item, Parts}
-use Rattle.reset_play.specs.Machine.{first_moment}
-use Rattle.reset_play.specs.Spent as spent
-use Rattle.reset_play.specs.Spent.{Element}
+use Rattle.reference_machine.specs.declared.unit.Kind.TheVariants.{Try}
+use Rattle.reference_machine.specs.declared.unit.UnitKey.{UnitKey}
+use Rattle.reference_machine.specs.Deliveries.{fmp_guid}
+use Rattle.reference_machine.specs.Formats.{ItemHead, Item, Parts}
+use Rattle.reference_machine.specs.Machine.{first_moment}
+use Rattle.reference_machine.specs.Spent as spent
+use Rattle.reference_machine.specs.Spent.{Element}
 use Rattle.reset_play.specs.Thin.{is_thin, thin_item}
 
 -- the header of a thin item: of version 3, for images of support 0
@@ -26,9 +26,9 @@ item_of t = record { head = thin_head t.type_id t.index t.instance; image = t.im
 abbrev pub thin_said : List ℕ → Option Item
 thin_said bytes = if is_thin bytes then Some (thin_item bytes) else None
 
--- the parts that a value says; an image without dependencies is satisfied by any versions
+-- the parts that a value says, without a dependency section
 abbrev pub parts_of : PlainParts → Parts
-parts_of p = record { version = p.version; lowest = p.lowest; payload = p.payload.now; is_satisfied = λ versions. true }
+parts_of p = record { version = p.version; lowest = p.lowest; dependency = []; payload = p.payload.now }
 
 -- what a standing says: no event of a play on lists moves the clock
 abbrev pub standing_of : Standing → spent.Standing
@@ -44,6 +44,7 @@ attempt_of key head version floor payload standing = record {
   head = head;
   version = version;
   floor = floor;
+  dependency = [];
   payload = payload;
   standing = standing_of standing;
 }

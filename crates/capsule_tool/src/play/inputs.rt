@@ -2,8 +2,8 @@
 ghost use Rattle.std.specs.Prelude.{◌≡◌, ◌≤◌, ◌+◌, ◌++◌, ◌∷◌, [], ℕ, List, IsTrue, bytes_eq, map, IfOk, OnErr};
 ghost use Rattle.std.specs.List.{list_all};
 ghost use Rattle.cu_io.specs.Named.{Named, LacksName};
-ghost use Rattle.reset_play.specs.declared.event.Event.{Event};
-ghost use Rattle.reset_play.specs.Laws.{Distinct};
+ghost use Rattle.reference_machine.specs.declared.event.Event.{Event};
+ghost use Rattle.reference_machine.specs.Laws.{Distinct};
 ghost use Rattle.reset_play.specs.Plays.{is_thin_on};
 ghost use Rattle.capsule_tool.specs.Plays.{input_next, input_work, inputs_work, played};
 ghost use Rattle.capsule_tool.specs.Readings.{seen};

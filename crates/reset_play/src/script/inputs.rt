@@ -1,7 +1,7 @@
 //! The inputs that a script names.
 
 ghost use Rattle.std.specs.Prelude.{◌≡◌, OnOk, OnErr, IfOk, bytes_eq, option_copied};
-ghost use Rattle.reset_play.specs.Laws.{Distinct};
+ghost use Rattle.reference_machine.specs.Laws.{Distinct};
 ghost use Rattle.reset_play.specs.ScriptInputs.{mention, inputs_of, has_name, with_name, with_mention};
 
 use crate::{Event, Script};

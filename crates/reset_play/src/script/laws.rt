@@ -2,7 +2,7 @@
 
 ghost use Rattle.std.specs.Prelude.{◌≡◌, ◌≤◌, List, Ok, length};
 ghost use Rattle.std.specs.List.{AllByRecursion};
-ghost use Rattle.reset_play.specs.declared.event.Event.{Event};
+ghost use Rattle.reference_machine.specs.declared.event.Event.{Event};
 ghost use Rattle.reset_play.specs.declared.script.limits.TheConstants.{MAX_EVENTS};
 ghost use Rattle.reset_play.specs.ScriptSpelling.{Fits, script_text};
 ghost use Rattle.reset_play.specs.ScriptText.{script_said};

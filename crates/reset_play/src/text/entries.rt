@@ -2,7 +2,7 @@
 
 ghost use Rattle.std.specs.Prelude.{◌≡◌, ◌++◌, map, IfOk, OnOk};
 ghost use Rattle.reset_play.specs.Texts.{answer_words, end_word, entries_text, event_line, event_word, lines_before, parts, trace_text};
-ghost use Rattle.reset_play.specs.Told.{told_of};
+ghost use Rattle.reference_machine.specs.TraceValues.{answer_value};
 
 use super::parts::{push_number, push_number_part, push_word_part};
 use super::picture::push_picture;
@@ -20,7 +20,7 @@ pub fn trace_text(
     script: &Script,
     trace: &Trace,
 ) -> Result<Text, NoMemory>
-    ensures value { IfOk result (λ text. text ≡ trace_text board.now script.now.items (map (λ e. told_of e.answer) trace.now.items)) }
+    ensures value { IfOk result (λ text. text ≡ trace_text board.now script.now.items (map (λ e. answer_value e.answer) trace.now.items)) }
 {
     let mut out = Text::from_str(alloc, "")?;
     push_entries(&mut out, alloc, board, script.as_slice(), trace.as_slice())?;
@@ -37,7 +37,7 @@ fn push_entries(
     script: &[Event],
     trace: &[Entry],
 ) -> Result<(), NoMemory>
-    ensures { OnOk result (out.new ≡ out.old ++ entries_text board.now 1 script.now (map (λ e. told_of e.answer) trace.now)) }
+    ensures { OnOk result (out.new ≡ out.old ++ entries_text board.now 1 script.now (map (λ e. answer_value e.answer) trace.now)) }
 {
     let count = script.len().min(trace.len());
     for i in 0..count {
@@ -53,7 +53,7 @@ fn push_lines_before(
     board: &Board,
     answer: &Answer,
 ) -> Result<(), NoMemory>
-    ensures { OnOk result (out.new ≡ out.old ++ lines_before board.now (told_of answer.now)) }
+    ensures { OnOk result (out.new ≡ out.old ++ lines_before board.now (answer_value answer.now)) }
 {
     match answer {
         Answer::Booted(report, _) => push_units(out, board, report.lines.as_slice())?,
@@ -78,7 +78,7 @@ fn push_event_line(
     event: &Event,
     answer: &Answer,
 ) -> Result<(), NoMemory>
-    ensures { OnOk result (out.new ≡ out.old ++ event_line number event.now (told_of answer.now)) }
+    ensures { OnOk result (out.new ≡ out.old ++ event_line number event.now (answer_value answer.now)) }
 {
     push_number(out, number)?;
     push_word_part(out, event_word(event))?;
@@ -106,7 +106,7 @@ fn event_word(event: &Event) -> &'static str
 }
 
 fn push_answer_parts(out: &mut Text, answer: &Answer) -> Result<(), NoMemory>
-    ensures { OnOk result (out.new ≡ out.old ++ parts (answer_words (told_of answer.now))) }
+    ensures { OnOk result (out.new ≡ out.old ++ parts (answer_words (answer_value answer.now))) }
 {
     match answer {
         Answer::Done | Answer::Shown(_) => push_word_part(out, "ok")?,

@@ -2,7 +2,7 @@
 
 ghost use Rattle.std.specs.Prelude.{◌≡◌, ◌++◌, flat_map, OnOk};
 ghost use Rattle.reset_play.specs.Texts.{esrt_text, result_text, fmp_words, last_text, file_text, parts, staged_text, picture_text};
-ghost use Rattle.reset_play.specs.Told.{picture_of};
+ghost use Rattle.reference_machine.specs.TraceValues.{snapshot_value};
 
 use super::parts::{
     push_guid_part, push_hex_part, push_number_part, push_number_parts, push_part_or_dash,
@@ -13,7 +13,7 @@ use cu_base::{NoMemory, Text};
 use std::alloc::Global;
 
 pub fn push_picture(out: &mut Text, alloc: Global, shown: &Snapshot) -> Result<(), NoMemory>
-    ensures { OnOk result (out.new ≡ out.old ++ picture_text (picture_of shown.now)) }
+    ensures { OnOk result (out.new ≡ out.old ++ picture_text (snapshot_value shown.now)) }
 {
     push_esrt(out, alloc, shown.esrt.as_slice())?;
     push_results(out, alloc, shown.results.as_slice())?;

@@ -1,8 +1,8 @@
 //! The attempt of a thin file.
 
 ghost use Rattle.std.specs.Prelude.{◌≡◌, [], IfOk, IsTrue, option_map, unwrap_or};
-ghost use Rattle.reset_play.specs.Boots.{element_of};
-ghost use Rattle.reset_play.specs.Spent.Standing.{Open};
+ghost use Rattle.reference_machine.specs.Boots.{element_of};
+ghost use Rattle.reference_machine.specs.Spent.Standing.{Open};
 ghost use Rattle.reset_play.specs.Thin.{thin, is_thin, thin_item, plain_parts};
 ghost use Rattle.reset_play.specs.ThinValues.{item_of};
 ghost use Rattle.reset_play.specs.Whole.{file_key, file_unit};

@@ -1,10 +1,10 @@
 //! The update folder of a play on lists.
 
-ghost use Rattle.std.specs.Prelude.{◌≡◌, ◌≤◌, length, IfOk, OnOk, OnErr, position};
+ghost use Rattle.std.specs.Prelude.{◌≡◌, ◌≤◌, length, not, IfOk, OnOk, OnErr, position};
 ghost use Rattle.std.specs.List.{list_any, position_or_len};
-ghost use Rattle.reset_play.specs.Boots.{is_file};
-ghost use Rattle.reset_play.specs.Names.{is_same_name, is_taken_before};
-ghost use Rattle.reset_play.specs.Order.{in_order, inserted};
+ghost use Rattle.reference_machine.specs.Boots.{is_file};
+ghost use Rattle.reference_machine.specs.Names.{is_same_name, is_taken_before};
+ghost use Rattle.reference_machine.specs.Order.{in_order, inserted};
 
 use cu_base::{NoMemory, Text};
 use std::alloc::Global;
@@ -19,7 +19,7 @@ pub struct StoredFile<'a> {
 }
 
 impl<'a> Model for StoredFile<'a> {
-    ghost use Rattle.reset_play.specs.Machine.{File};
+    ghost use Rattle.reference_machine.specs.Machine.{File};
 
     ghost Value = { File };
 
@@ -105,19 +105,19 @@ fn copy_of<'a>(alloc: Global, file: &StoredFile<'a>) -> Result<StoredFile<'a>, N
     })
 }
 
-// The place of the first file that is taken after one of this name.
+// The place of the first file that is not taken before one of this name.
 fn first_behind(files: &[StoredFile<'_>], name: &str) -> Option<usize>
-    ensures { result ≡ position (λ x. is_taken_before name.now x.name) files.now }
+    ensures { result ≡ position (λ x. not (is_taken_before x.name name.now)) files.now }
 {
     files
         .iter()
-        .position(|file| is_taken_before(name, file.name()))
+        .position(|file| !is_taken_before(file.name(), name))
 }
 
-// How many files stand before the first that is taken after one of this name.
+// How many files stand before the first that is not taken before one of this name.
 #[tactic(auto, using(crate::proofs::FolderLemmas::none_passes, crate::proofs::FolderLemmas::place_at_most))]
 fn place_of(files: &[StoredFile<'_>], name: &str) -> usize
-    ensures place { result ≡ position_or_len (λ x. is_taken_before name.now x.name) files.now }
+    ensures place { result ≡ position_or_len (λ x. not (is_taken_before x.name name.now)) files.now }
     ensures bound { result ≤ length files.now }
 {
     match first_behind(files, name) {
@@ -126,7 +126,7 @@ fn place_of(files: &[StoredFile<'_>], name: &str) -> usize
     }
 }
 
-// Puts a file before the first that is taken after it.
+// Puts a file before the first that is not taken before it.
 fn put_in_order<'a>(ordered: &mut Vec<StoredFile<'a>>, file: StoredFile<'a>) -> Result<(), NoMemory>
     ensures ok { OnOk result (ordered.new.items ≡ inserted (λ a b. is_taken_before a.name b.name) file.entry ordered.old.items) }
     ensures err { OnErr result (ordered.new.items ≡ ordered.old.items) }

@@ -1,13 +1,18 @@
 //! The lines of a boot.
 
 ghost use Rattle.std.specs.Prelude.{◌≡◌, IfOk, Some};
-ghost use Rattle.reset_play.specs.Results.{status_with, efi_status, efi_number_of, line_of, result_number};
-ghost use Rattle.reset_play.specs.declared.unit.Kind.TheVariants.{Try};
+ghost use Rattle.reference_machine.specs.Results.{status_with, efi_status, efi_number_of, line_of, result_number};
+ghost use Rattle.reference_machine.specs.declared.unit.Kind.TheVariants.{Try};
 
 use super::spent::{SpentTry, Standing};
 use crate::{End, Kind, UnitKey, UnitLine};
 use bench_model::Board;
 use cu_base::{EfiStatus, NoMemory, Text};
+use reference_machine::{
+    LAST_ATTEMPT_STATUS_ERROR_AUTH_ERROR, LAST_ATTEMPT_STATUS_ERROR_INCORRECT_VERSION,
+    LAST_ATTEMPT_STATUS_ERROR_INSUFFICIENT_RESOURCES, LAST_ATTEMPT_STATUS_ERROR_INVALID_FORMAT,
+    LAST_ATTEMPT_STATUS_ERROR_UNSATISFIED_DEPENDENCIES, LAST_ATTEMPT_STATUS_SUCCESS,
+};
 use std::alloc::Global;
 
 // The CapsuleStatus that tells a LastAttemptStatus.
@@ -15,12 +20,12 @@ fn status_of_attempt(status: u32) -> EfiStatus
     ensures { result ≡ efi_status (efi_number_of status) }
 {
     match status {
-        0 => EfiStatus::SUCCESS,
-        2 => EfiStatus::OUT_OF_RESOURCES,
-        3 => EfiStatus::INCOMPATIBLE_VERSION,
-        4 => EfiStatus::LOAD_ERROR,
-        5 => EfiStatus::SECURITY_VIOLATION,
-        8 => EfiStatus::NOT_FOUND,
+        LAST_ATTEMPT_STATUS_SUCCESS => EfiStatus::SUCCESS,
+        LAST_ATTEMPT_STATUS_ERROR_INSUFFICIENT_RESOURCES => EfiStatus::OUT_OF_RESOURCES,
+        LAST_ATTEMPT_STATUS_ERROR_INCORRECT_VERSION => EfiStatus::INCOMPATIBLE_VERSION,
+        LAST_ATTEMPT_STATUS_ERROR_INVALID_FORMAT => EfiStatus::LOAD_ERROR,
+        LAST_ATTEMPT_STATUS_ERROR_AUTH_ERROR => EfiStatus::SECURITY_VIOLATION,
+        LAST_ATTEMPT_STATUS_ERROR_UNSATISFIED_DEPENDENCIES => EfiStatus::NOT_FOUND,
         _ => EfiStatus::ABORTED,
     }
 }

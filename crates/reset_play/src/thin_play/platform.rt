@@ -5,13 +5,13 @@ mod folder_work;
 mod steps;
 
 ghost use Rattle.std.specs.Prelude.{◌≡◌, ◌≤◌, ◌+◌, ◌++◌, ◌∷◌, [], ◌^◌, ◌<◌, ◌-◌, false, IsTrue, not, filter, IfOk, OnOk, OnErr};
-ghost use Rattle.reset_play.specs.Events.Act.{Drop, Signal};
-ghost use Rattle.reset_play.specs.Events.{outcome, plain, is_folder_full};
-ghost use Rattle.reset_play.specs.Machine.{fresh};
-ghost use Rattle.reset_play.specs.Names.{is_same_name};
+ghost use Rattle.reference_machine.specs.Events.Act.{Drop, Signal};
+ghost use Rattle.reference_machine.specs.Events.{outcome, plain, is_folder_full};
+ghost use Rattle.reference_machine.specs.Machine.{fresh};
+ghost use Rattle.reference_machine.specs.Names.{is_same_name};
 ghost use Rattle.reset_play.specs.Plays.{has_one_device, is_thin_on};
 ghost use Rattle.reset_play.specs.Thin.{thin};
-ghost use Rattle.reset_play.specs.Told.{told_of, said_of};
+ghost use Rattle.reference_machine.specs.TraceValues.{answer_value, entry_value};
 
 use super::folder::{StoredFile, has_file, is_same_name};
 use super::spent::{SpentTries, SpentTry};
@@ -23,7 +23,7 @@ use std::marker::Model;
 
 /// A platform of one device, in lists. Contracts see the reference machine.
 #[derive(Drop)]
-pub struct Platform<'a> {
+pub struct ListPlatform<'a> {
     board: &'a Board,
     files: Vec<StoredFile<'a>>,
     last_file: u64,
@@ -32,36 +32,36 @@ pub struct Platform<'a> {
     done: SpentTries<'a>,
     /// The attempt that an earlier boot left open.
     claimed: Option<SpentTry<'a>>,
-    kept: Serials,
+    in_progress: Serials,
     batches: u64,
 }
 
-impl<'a> Model for Platform<'a> {
+impl<'a> Model for ListPlatform<'a> {
     ghost use Rattle.std.specs.Prelude.{◌++◌, [], false};
-    ghost use Rattle.reset_play.specs.Machine.{Machine, first_moment};
-    ghost use Rattle.reset_play.specs.Whole.{held, IsPlatform};
+    ghost use Rattle.reference_machine.specs.Machine.{Machine, first_moment};
+    ghost use Rattle.reset_play.specs.Whole.{open_rest, IsListPlatform};
 
     ghost Value = { Machine };
 
-    ghost view = { λ p. record { board = p.board.now; now = first_moment; files = p.files.items; last_file = p.last_file; memory = []; staged = []; last_staged = 0; bit = p.asked; list = p.done.items ++ held p.claimed; kept = p.kept.items; batches = p.batches; failed = false } };
+    ghost view = { λ p. record { board = p.board.now; now = first_moment; files = p.files.items; last_file = p.last_file; memory = []; staged = []; last_staged = 0; is_signalled = p.asked; list = p.done.items ++ open_rest p.claimed; in_progress = p.in_progress.items; batches = p.batches; failed = false } };
 
-    ghost invariant = { λ p. IsPlatform p.board.now p.files.items p.done.items p.claimed };
+    ghost invariant = { λ p. IsListPlatform p.board.now p.files.items p.done.items p.claimed };
 }
 
-impl<'a> Platform<'a> {
+impl<'a> ListPlatform<'a> {
     /// A platform as it leaves the factory. It takes no memory.
-    pub fn new(alloc: Global, board: &'a Board) -> Platform<'a>
+    pub fn new(alloc: Global, board: &'a Board) -> ListPlatform<'a>
         requires { IsTrue (has_one_device board.now) }
         ensures { result ≡ fresh board.now }
     {
-        Platform {
+        ListPlatform {
             board,
             files: Vec::new(alloc),
             last_file: 0,
             asked: false,
             done: Items::new(alloc),
             claimed: None,
-            kept: Items::new(alloc),
+            in_progress: Items::new(alloc),
             batches: 0,
         }
     }
@@ -84,7 +84,7 @@ impl<'a> Platform<'a> {
         bytes: &'a [u8],
     ) -> Result<Entry, NoMemory>
         requires { IsTrue (is_thin_on self.old.board bytes.now) }
-        ensures ok { IfOk result (λ entry. (said_of entry, self.new) ≡ outcome thin self.old (Drop name.now bytes.now)) }
+        ensures ok { IfOk result (λ entry. (entry_value entry, self.new) ≡ outcome thin self.old (Drop name.now bytes.now)) }
         ensures board { self.new.board ≡ self.old.board }
         ensures batches { self.new.batches ≡ self.old.batches }
     {
@@ -104,7 +104,7 @@ impl<'a> Platform<'a> {
     /// Asks for the files to be taken at the next boot.
     pub fn signal(&mut self) -> Entry
         requires { self.old.batches ≤ 2 ^ 63 }
-        ensures value { (said_of result, self.new) ≡ outcome thin self.old Signal }
+        ensures value { (entry_value result, self.new) ≡ outcome thin self.old Signal }
         ensures board { self.new.board ≡ self.old.board }
         ensures batches { self.new.batches ≤ self.old.batches + 1 }
     {
@@ -121,7 +121,7 @@ impl<'a> Platform<'a> {
 
 // What an event tells that does not open the store.
 fn plain_entry(answer: Answer) -> Entry
-    ensures { said_of result ≡ plain (told_of answer) }
+    ensures { entry_value result ≡ plain (answer_value answer) }
 {
     Entry {
         opened: None,

@@ -2,13 +2,13 @@
 
 ghost use Rattle.std.specs.Prelude.{◌≡◌, ◌≤◌, ◌+◌, ◌^◌, ℕ, ◌++◌, IsTrue, length, take, map, OnOk, OnErr, IfOk};
 ghost use Rattle.std.specs.List.{list_all};
-ghost use Rattle.reset_play.specs.Events.{outcome, act_of, trace_of, machine_after};
-ghost use Rattle.reset_play.specs.Events.Act.{Drop, Boot};
+ghost use Rattle.reference_machine.specs.Events.{outcome, act_of, trace_of, machine_after};
+ghost use Rattle.reference_machine.specs.Events.Act.{Drop, Boot};
 ghost use Rattle.reset_play.specs.Plays.{has_one_device, can_play, is_thin_on, thin_trace, loaded_bytes, acts_of};
 ghost use Rattle.reset_play.specs.Thin.{thin};
-ghost use Rattle.reset_play.specs.Told.{said_of};
+ghost use Rattle.reference_machine.specs.TraceValues.{entry_value};
 
-use super::platform::Platform;
+use super::platform::ListPlatform;
 use crate::{Answer, BootEnd, Entry, Event, MAX_EVENTS, Script, Trace};
 use bench_model::Board;
 use cu_base::{NoMemory, Text};
@@ -27,18 +27,18 @@ pub fn play(
     requires one { IsTrue (has_one_device board.now) }
     requires short { length script.now.items ≤ MAX_EVENTS }
     requires events { IsTrue (list_all (can_play board.now loaded.now.items) script.now.items) }
-    ensures ok { OnOk result (map said_of trace.new.items ≡ map said_of trace.old.items ++ thin_trace board.now loaded.now.items script.now.items) }
-    ensures err { OnErr result ((n : ℕ) × (map said_of trace.new.items ≡ map said_of trace.old.items ++ take n (thin_trace board.now loaded.now.items script.now.items))) }
+    ensures ok { OnOk result (map entry_value trace.new.items ≡ map entry_value trace.old.items ++ thin_trace board.now loaded.now.items script.now.items) }
+    ensures err { OnErr result ((n : ℕ) × (map entry_value trace.new.items ≡ map entry_value trace.old.items ++ take n (thin_trace board.now loaded.now.items script.now.items))) }
     ensures long { length trace.new.items ≤ length trace.old.items + length script.now.items }
 {
-    let mut platform = Platform::new(alloc, board);
+    let mut platform = ListPlatform::new(alloc, board);
     run_events(&mut platform, alloc, script.as_slice(), loaded, trace)?;
     Ok(())
 }
 
 /// Plays events on a platform that other events may have led to.
 pub fn run_events<'a>(
-    platform: &mut Platform<'a>,
+    platform: &mut ListPlatform<'a>,
     alloc: Global,
     events: &[Event],
     loaded: &'a Loaded,
@@ -47,9 +47,9 @@ pub fn run_events<'a>(
     requires short { length events.now ≤ MAX_EVENTS }
     requires batches { platform.old.batches ≤ 2 ^ 58 }
     requires events { IsTrue (list_all (can_play platform.old.board loaded.now.items) events.now) }
-    ensures ok { OnOk result (map said_of trace.new.items ≡ map said_of trace.old.items ++ trace_of thin platform.old (acts_of loaded.now.items events.now)) }
+    ensures ok { OnOk result (map entry_value trace.new.items ≡ map entry_value trace.old.items ++ trace_of thin platform.old (acts_of loaded.now.items events.now)) }
     ensures after { OnOk result (platform.new ≡ machine_after thin platform.old (acts_of loaded.now.items events.now)) }
-    ensures err { OnErr result ((n : ℕ) × (map said_of trace.new.items ≡ map said_of trace.old.items ++ take n (trace_of thin platform.old (acts_of loaded.now.items events.now)))) }
+    ensures err { OnErr result ((n : ℕ) × (map entry_value trace.new.items ≡ map entry_value trace.old.items ++ take n (trace_of thin platform.old (acts_of loaded.now.items events.now)))) }
     ensures long { length trace.new.items ≤ length trace.old.items + length events.now }
 {
     for event in events {
@@ -61,14 +61,14 @@ pub fn run_events<'a>(
 
 // What an event of files tells.
 fn answer_of<'a>(
-    platform: &mut Platform<'a>,
+    platform: &mut ListPlatform<'a>,
     alloc: Global,
     event: &Event,
     loaded: &'a Loaded,
 ) -> Result<Entry, NoMemory>
     requires batches { platform.old.batches ≤ 2 ^ 59 }
     requires played { IsTrue (can_play platform.old.board loaded.now.items event.now) }
-    ensures ok { IfOk result (λ entry. (said_of entry, platform.new) ≡ outcome thin platform.old (act_of (loaded_bytes loaded.now.items) event.now)) }
+    ensures ok { IfOk result (λ entry. (entry_value entry, platform.new) ≡ outcome thin platform.old (act_of (loaded_bytes loaded.now.items) event.now)) }
     ensures board { platform.new.board ≡ platform.old.board }
     ensures batches { OnOk result (platform.new.batches ≤ platform.old.batches + 100) }
 {
@@ -82,14 +82,14 @@ fn answer_of<'a>(
 
 // Puts a named input into the folder.
 fn drop_input<'a>(
-    platform: &mut Platform<'a>,
+    platform: &mut ListPlatform<'a>,
     alloc: Global,
     file: &Text,
     input: &Text,
     loaded: &'a Loaded,
 ) -> Result<Entry, NoMemory>
     requires { IsTrue (is_thin_on platform.old.board (loaded_bytes loaded.now.items input.now)) }
-    ensures ok { IfOk result (λ entry. (said_of entry, platform.new) ≡ outcome thin platform.old (Drop file.now (loaded_bytes loaded.now.items input.now))) }
+    ensures ok { IfOk result (λ entry. (entry_value entry, platform.new) ≡ outcome thin platform.old (Drop file.now (loaded_bytes loaded.now.items input.now))) }
     ensures board { platform.new.board ≡ platform.old.board }
     ensures batches { platform.new.batches ≡ platform.old.batches }
 {
@@ -100,9 +100,9 @@ fn drop_input<'a>(
 }
 
 // What a boot tells.
-fn boot_answer(platform: &mut Platform<'_>, alloc: Global) -> Result<Entry, NoMemory>
+fn boot_answer(platform: &mut ListPlatform<'_>, alloc: Global) -> Result<Entry, NoMemory>
     requires { platform.old.batches ≤ 2 ^ 59 }
-    ensures ok { IfOk result (λ entry. (said_of entry, platform.new) ≡ outcome thin platform.old Boot) }
+    ensures ok { IfOk result (λ entry. (entry_value entry, platform.new) ≡ outcome thin platform.old Boot) }
     ensures board { platform.new.board ≡ platform.old.board }
     ensures batches { OnOk result (platform.new.batches ≤ platform.old.batches + 100) }
 {

@@ -2,7 +2,7 @@
 
 ghost use Rattle.std.specs.Prelude.{◌≡◌, ◌==◌, ◌&&◌, not, max, if◌then◌else◌, slice_get, Some};
 ghost use Rattle.std.specs.List.{list_any};
-ghost use Rattle.reset_play.specs.Spent.{is_of, is_on, is_open, is_closed, is_sealed, floor_of, spent};
+ghost use Rattle.reference_machine.specs.Spent.{is_of, is_on, is_open, is_closed, is_sealed, floor_of, spent};
 
 use crate::{End, UnitKey};
 use bench_model::{Board, Device};
@@ -38,7 +38,7 @@ pub struct SpentTry<'a> {
 }
 
 impl<'a> Model for SpentTry<'a> {
-    ghost use Rattle.reset_play.specs.Spent.{Element};
+    ghost use Rattle.reference_machine.specs.Spent.{Element};
     ghost use Rattle.reset_play.specs.ThinValues.{attempt_of, thin_head};
 
     ghost Value = { Element };

@@ -1,28 +1,20 @@
 //! Whether an image may be tried on the first device of a board.
 
 ghost use Rattle.std.specs.Prelude.{◌≡◌, nat_le, Some};
-ghost use Rattle.reset_play.specs.Deliveries.{BootUnit};
-ghost use Rattle.reset_play.specs.Machine.{Machine};
+ghost use Rattle.reference_machine.specs.Deliveries.{BootUnit};
+ghost use Rattle.reference_machine.specs.Machine.{Machine};
 ghost use Rattle.reset_play.specs.Thin.{thin};
 ghost use Rattle.reset_play.specs.ThinValues.{parts_of};
-ghost use Rattle.reset_play.specs.Verdicts.{is_admitted, capacity_of, refusal, refusal_with};
+ghost use Rattle.reference_machine.specs.Verdicts.{is_admitted, capacity_of, refusal, refusal_with};
 
 use super::delivery::{PlainParts, read_parts};
 use super::spent::{SpentTry, first_device, floor_in_force};
 use bench_model::Board;
+use reference_machine::{
+    LAST_ATTEMPT_STATUS_ERROR_AUTH_ERROR, LAST_ATTEMPT_STATUS_ERROR_INCORRECT_VERSION,
+    LAST_ATTEMPT_STATUS_ERROR_INSUFFICIENT_RESOURCES, LAST_ATTEMPT_STATUS_ERROR_INVALID_FORMAT,
+};
 use sha2::{Digest, Sha256};
-
-/// LAST_ATTEMPT_STATUS_ERROR_INSUFFICIENT_RESOURCES (UEFI 2.10, 23.4).
-pub const INSUFFICIENT_RESOURCES: u32 = 2;
-
-/// LAST_ATTEMPT_STATUS_ERROR_INCORRECT_VERSION (UEFI 2.10, 23.4).
-pub const INCORRECT_VERSION: u32 = 3;
-
-/// LAST_ATTEMPT_STATUS_ERROR_INVALID_FORMAT (UEFI 2.10, 23.4).
-pub const INVALID_FORMAT: u32 = 4;
-
-/// LAST_ATTEMPT_STATUS_ERROR_AUTH_ERROR (UEFI 2.10, 23.4).
-pub const AUTH_ERROR: u32 = 5;
 
 // Whether the SHA-256 of the whole image is listed.
 fn is_admitted(board: &Board, image: &[u8]) -> bool
@@ -40,6 +32,7 @@ fn has_room(board: &Board, size: usize) -> bool
 }
 
 // The status of the first check that the parts of an image fail, in order.
+#[tactic(auto, using(crate::proofs::VerdictLemmas::dependencies_hold))]
 fn refusal_of_parts(
     board: &Board,
     list: &[SpentTry<'_>],
@@ -47,16 +40,16 @@ fn refusal_of_parts(
     parts: &PlainParts<'_>,
 ) -> Option<u32>
     ensures { (m : Machine) (u : BootUnit) → m.board ≡ board.now → m.list ≡ list.now →
-        u.image ≡ image.now → u.key.device ≡ 0 → result ≡ refusal_with m u (Some (parts_of parts.now)) }
+        u.image ≡ image.now → u.key.device ≡ 0 → result ≡ refusal_with thin m u (Some (parts_of parts.now)) }
 {
     if !is_admitted(board, image) {
-        return Some(AUTH_ERROR);
+        return Some(LAST_ATTEMPT_STATUS_ERROR_AUTH_ERROR);
     }
     if !has_room(board, parts.payload.len()) {
-        return Some(INSUFFICIENT_RESOURCES);
+        return Some(LAST_ATTEMPT_STATUS_ERROR_INSUFFICIENT_RESOURCES);
     }
     if parts.version < floor_in_force(board, list) {
-        return Some(INCORRECT_VERSION);
+        return Some(LAST_ATTEMPT_STATUS_ERROR_INCORRECT_VERSION);
     }
     None
 }
@@ -69,6 +62,6 @@ pub fn refusal(board: &Board, list: &[SpentTry<'_>], image: &[u8]) -> Option<u32
 {
     match read_parts(image) {
         Some(parts) => refusal_of_parts(board, list, image, &parts),
-        None => Some(INVALID_FORMAT),
+        None => Some(LAST_ATTEMPT_STATUS_ERROR_INVALID_FORMAT),
     }
 }

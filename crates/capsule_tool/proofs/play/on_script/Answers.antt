@@ -1,7 +1,7 @@
 use Rattle.std.proofs.Common.{[]}
 use Rattle.cu_base.specs.Kept.{Kept}
 use Rattle.reset_play.specs.ScriptInputs.{inputs_of}
-use Rattle.reset_play.specs.declared.event.Event.{Event}
+use Rattle.reference_machine.specs.declared.event.Event.{Event}
 use Rattle.capsule_tool.specs.Plays.{inputs_work}
 use Rattle.capsule_tool.specs.Readings.{seen}
 use Rattle.capsule_tool.specs.Works.{Work}

@@ -1,23 +1,23 @@
 //! A whole boot.
 
 ghost use Rattle.std.specs.Prelude.{◌≡◌, ◌≤◌, ◌+◌, ◌^◌, find, None, IfOk, OnOk};
-ghost use Rattle.reset_play.specs.Boots.{boot_of};
-ghost use Rattle.reset_play.specs.Spent.{is_open};
+ghost use Rattle.reference_machine.specs.Boots.{boot_of};
+ghost use Rattle.reference_machine.specs.Spent.{is_open};
 ghost use Rattle.reset_play.specs.Thin.{thin};
-ghost use Rattle.reset_play.specs.Whole.{at, finish, heal_work};
-ghost use Rattle.reset_play.specs.declared.unit.End.TheVariants.{Sealed};
+ghost use Rattle.reset_play.specs.Whole.{between_tasks, tasks_done, heal_tasks};
+ghost use Rattle.reference_machine.specs.declared.unit.End.TheVariants.{Sealed};
 
-use super::Platform;
+use super::ListPlatform;
 use crate::{Kind, Report};
 use cu_base::NoMemory;
 use std::alloc::Global;
 
-impl<'a> Platform<'a> {
+impl<'a> ListPlatform<'a> {
     // The attempt that an earlier boot left open, if any, is settled.
     fn heal(&mut self, alloc: Global, report: &mut Report) -> Result<(), NoMemory>
         requires batches { self.old.batches ≤ 2 ^ 62 }
         requires steps { report.old.steps ≤ 2 ^ 30 }
-        ensures ok { OnOk result (at self.new report.new ≡ finish thin (at self.old report.old) (heal_work (find is_open self.old.list))) }
+        ensures ok { OnOk result (between_tasks self.new report.new ≡ tasks_done thin (between_tasks self.old report.old) (heal_tasks (find is_open self.old.list))) }
         ensures rests { OnOk result (find is_open self.new.list ≡ None) }
         ensures board { self.new.board ≡ self.old.board }
         ensures counts { OnOk result ((self.new.batches ≤ self.old.batches + 1) × (report.new.steps ≤ report.old.steps + 1)) }
@@ -33,7 +33,7 @@ impl<'a> Platform<'a> {
     /// which is its image.
     pub fn boot(&mut self, alloc: Global) -> Result<Report, NoMemory>
         requires { self.old.batches ≤ 2 ^ 59 }
-        ensures ok { IfOk result (λ report. at self.new report ≡ boot_of thin self.old Sealed) }
+        ensures ok { IfOk result (λ report. between_tasks self.new report ≡ boot_of thin self.old Sealed) }
         ensures board { self.new.board ≡ self.old.board }
         ensures batches { OnOk result (self.new.batches ≤ self.old.batches + 67) }
     {

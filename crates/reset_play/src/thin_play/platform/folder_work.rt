@@ -2,14 +2,14 @@
 
 ghost use Rattle.std.specs.Prelude.{◌≡◌, ◌≤◌, ◌+◌, ◌*◌, ◌^◌, [], ◌∷◌, IsTrue, not, filter, find, None, IfOk, OnOk, length, if◌then◌else◌};
 ghost use Rattle.std.specs.List.{list_any, list_all};
-ghost use Rattle.reset_play.specs.Boots.{is_file, prune_work, folder_work};
-ghost use Rattle.reset_play.specs.Boots.Work.{Does};
+ghost use Rattle.reference_machine.specs.Boots.{is_file, prune_tasks, folder_tasks};
+ghost use Rattle.reference_machine.specs.Boots.BootTask.{Does};
 ghost use Rattle.reset_play.specs.Plays.{is_thin_on};
-ghost use Rattle.reset_play.specs.Spent.{is_open};
+ghost use Rattle.reference_machine.specs.Spent.{is_open};
 ghost use Rattle.reset_play.specs.Thin.{thin};
-ghost use Rattle.reset_play.specs.Whole.{at, whole, finish, file_unit, marked_work, marked_works, marks_of};
+ghost use Rattle.reset_play.specs.Whole.{between_tasks, task_done, tasks_done, file_unit, marked_tasks, all_marked_tasks, marks_of};
 
-use super::Platform;
+use super::ListPlatform;
 use crate::thin_play::attempt::{attempt_of, item_in};
 use crate::thin_play::folder::{StoredFile, has_serial, ordered_files};
 use crate::thin_play::spent::{SpentTry, Standing, is_file_spent};
@@ -19,18 +19,22 @@ use cu_base::{Items, NoMemory};
 use std::alloc::Global;
 
 // Whether a serial is of no file.
-fn lacks_a_file(files: &[StoredFile<'_>], kept: &[u64]) -> bool
-    ensures { result ≡ list_any (λ s. not (is_file files.now s)) kept.now }
+fn lacks_a_file(files: &[StoredFile<'_>], in_progress: &[u64]) -> bool
+    ensures { result ≡ list_any (λ s. not (is_file files.now s)) in_progress.now }
 {
-    kept.iter().any(|serial| !has_serial(files, *serial))
+    in_progress.iter().any(|serial| !has_serial(files, *serial))
 }
 
 // The serials that are of files.
-fn with_files(alloc: Global, files: &[StoredFile<'_>], kept: &[u64]) -> Result<Serials, NoMemory>
-    ensures { IfOk result (λ left. left.items ≡ filter (is_file files.now) kept.now) }
+fn with_files(
+    alloc: Global,
+    files: &[StoredFile<'_>],
+    in_progress: &[u64],
+) -> Result<Serials, NoMemory>
+    ensures { IfOk result (λ left. left.items ≡ filter (is_file files.now) in_progress.now) }
 {
     let mut left = Serials::new(alloc);
-    for serial in kept {
+    for serial in in_progress {
         if has_serial(files, *serial) {
             left.push(*serial)?;
         }
@@ -53,7 +57,7 @@ fn marks_of(
     Ok(marks)
 }
 
-impl<'a> Platform<'a> {
+impl<'a> ListPlatform<'a> {
     // The one unit of a thin file is refused, or tried.
     fn try_file(
         &mut self,
@@ -65,7 +69,7 @@ impl<'a> Platform<'a> {
         requires rests { find is_open self.old.list ≡ None }
         requires batches { self.old.batches ≤ 2 ^ 62 }
         requires steps { report.old.steps ≤ 2 ^ 30 }
-        ensures ok { OnOk result (at self.new report.new ≡ whole thin (at self.old report.old) (Does (file_unit file.now))) }
+        ensures ok { OnOk result (between_tasks self.new report.new ≡ task_done thin (between_tasks self.old report.old) (Does (file_unit file.now))) }
         ensures rests { OnOk result (find is_open self.new.list ≡ None) }
         ensures board { self.new.board ≡ self.old.board }
         ensures counts { OnOk result ((self.new.batches ≤ self.old.batches + 2) × (report.new.steps ≤ report.old.steps + 2)) }
@@ -98,7 +102,7 @@ impl<'a> Platform<'a> {
         requires rests { find is_open self.old.list ≡ None }
         requires batches { self.old.batches ≤ 2 ^ 62 }
         requires steps { report.old.steps ≤ 2 ^ 30 }
-        ensures ok { OnOk result (at self.new report.new ≡ finish thin (at self.old report.old) (if is_spent then [] else Does (file_unit file.now) ∷ [])) }
+        ensures ok { OnOk result (between_tasks self.new report.new ≡ tasks_done thin (between_tasks self.old report.old) (if is_spent then [] else Does (file_unit file.now) ∷ [])) }
         ensures rests { OnOk result (find is_open self.new.list ≡ None) }
         ensures board { self.new.board ≡ self.old.board }
         ensures counts { OnOk result ((self.new.batches ≤ self.old.batches + 2) × (report.new.steps ≤ report.old.steps + 2)) }
@@ -122,7 +126,7 @@ impl<'a> Platform<'a> {
         requires rests { find is_open self.old.list ≡ None }
         requires batches { self.old.batches ≤ 2 ^ 62 }
         requires steps { report.old.steps ≤ 2 ^ 30 }
-        ensures ok { OnOk result (at self.new report.new ≡ finish thin (at self.old report.old) (marked_work file.now is_spent)) }
+        ensures ok { OnOk result (between_tasks self.new report.new ≡ tasks_done thin (between_tasks self.old report.old) (marked_tasks file.now is_spent)) }
         ensures rests { OnOk result (find is_open self.new.list ≡ None) }
         ensures board { self.new.board ≡ self.old.board }
         ensures counts { OnOk result ((self.new.batches ≤ self.old.batches + 2) × (report.new.steps ≤ report.old.steps + 3)) }
@@ -146,7 +150,7 @@ impl<'a> Platform<'a> {
         requires rests { find is_open self.old.list ≡ None }
         requires batches { self.old.batches ≤ 2 ^ 61 }
         requires steps { report.old.steps ≤ 2 ^ 29 }
-        ensures ok { OnOk result (at self.new report.new ≡ finish thin (at self.old report.old) (marked_works files.now marks.now)) }
+        ensures ok { OnOk result (between_tasks self.new report.new ≡ tasks_done thin (between_tasks self.old report.old) (all_marked_tasks files.now marks.now)) }
         ensures board { self.new.board ≡ self.old.board }
         ensures counts { OnOk result ((self.new.batches ≤ self.old.batches + 64) × (report.new.steps ≤ report.old.steps + 96)) }
     {
@@ -160,15 +164,15 @@ impl<'a> Platform<'a> {
     fn prune(&mut self, alloc: Global, report: &mut Report) -> Result<(), NoMemory>
         requires batches { self.old.batches ≤ 2 ^ 62 }
         requires steps { report.old.steps ≤ 2 ^ 30 }
-        ensures ok { OnOk result (at self.new report.new ≡ finish thin (at self.old report.old) (prune_work self.old)) }
+        ensures ok { OnOk result (between_tasks self.new report.new ≡ tasks_done thin (between_tasks self.old report.old) (prune_tasks self.old)) }
         ensures list { self.new.list ≡ self.old.list }
         ensures board { self.new.board ≡ self.old.board }
         ensures counts { OnOk result ((self.new.batches ≤ self.old.batches + 1) × (report.new.steps ≤ report.old.steps + 1)) }
     {
-        if !lacks_a_file(&self.files, self.kept.as_slice()) {
+        if !lacks_a_file(&self.files, self.in_progress.as_slice()) {
             return Ok(());
         }
-        self.kept = with_files(alloc, &self.files, self.kept.as_slice())?;
+        self.in_progress = with_files(alloc, &self.files, self.in_progress.as_slice())?;
         self.batches += 1;
         report.steps += 1;
         Ok(())
@@ -179,7 +183,7 @@ impl<'a> Platform<'a> {
         requires rests { find is_open self.old.list ≡ None }
         requires batches { self.old.batches ≤ 2 ^ 60 }
         requires steps { report.old.steps ≤ 2 ^ 28 }
-        ensures ok { OnOk result (at self.new report.new ≡ finish thin (at self.old report.old) (folder_work thin self.old)) }
+        ensures ok { OnOk result (between_tasks self.new report.new ≡ tasks_done thin (between_tasks self.old report.old) (folder_tasks thin self.old)) }
         ensures board { self.new.board ≡ self.old.board }
         ensures batches { OnOk result (self.new.batches ≤ self.old.batches + 66) }
     {

@@ -2,16 +2,16 @@
 
 ghost use Rattle.std.specs.Prelude.{◌≡◌, ◌≤◌, ◌+◌, ◌∷◌, [], ◌^◌, IsTrue, not, ◌==◌, filter, find, None, OnOk, IsSome};
 ghost use Rattle.std.specs.List.{list_any};
-ghost use Rattle.reset_play.specs.Boots.{kept_with, with_element, with_claim, with_lines, one_step, next_line};
-ghost use Rattle.reset_play.specs.Boots.Work.{Settles, Removes, Clears};
-ghost use Rattle.reset_play.specs.Report.{report_of};
-ghost use Rattle.reset_play.specs.Spent.{is_open, is_closed};
+ghost use Rattle.reference_machine.specs.Boots.{progress_with, with_element, with_claim, with_lines, one_step, next_line};
+ghost use Rattle.reference_machine.specs.Boots.BootTask.{Settles, Removes, Clears};
+ghost use Rattle.reference_machine.specs.Report.{report_value};
+ghost use Rattle.reference_machine.specs.Spent.{is_open, is_closed};
 ghost use Rattle.reset_play.specs.Thin.{thin};
-ghost use Rattle.reset_play.specs.Whole.{at, whole};
-ghost use Rattle.reset_play.specs.declared.unit.End.TheVariants.{Sealed};
-ghost use Rattle.reset_play.specs.declared.unit.Kind.TheVariants.{Try};
+ghost use Rattle.reset_play.specs.Whole.{between_tasks, task_done};
+ghost use Rattle.reference_machine.specs.declared.unit.End.TheVariants.{Sealed};
+ghost use Rattle.reference_machine.specs.declared.unit.Kind.TheVariants.{Try};
 
-use super::Platform;
+use super::ListPlatform;
 use crate::thin_play::folder::StoredFile;
 use crate::thin_play::line::line_of;
 use crate::thin_play::spent::{SpentTry, Standing};
@@ -20,19 +20,19 @@ use cu_base::NoMemory;
 use std::alloc::Global;
 
 // Whether a serial is kept.
-fn is_kept(kept: &[u64], serial: u64) -> bool
-    ensures { result ≡ list_any (λ s. s == serial) kept.now }
+fn is_kept(in_progress: &[u64], serial: u64) -> bool
+    ensures { result ≡ list_any (λ s. s == serial) in_progress.now }
 {
-    kept.iter().any(|known| *known == serial)
+    in_progress.iter().any(|known| *known == serial)
 }
 
 // Keeps the serial of the key's file, where it is not kept yet.
-fn keep(kept: &mut Serials, key: &UnitKey) -> Result<(), NoMemory>
-    ensures { OnOk result (kept.new.items ≡ kept_with kept.old.items key.now) }
+fn keep(in_progress: &mut Serials, key: &UnitKey) -> Result<(), NoMemory>
+    ensures { OnOk result (in_progress.new.items ≡ progress_with in_progress.old.items key.now) }
 {
     let serial = key.ticket.serial;
-    if key.ticket.route == 1 && !is_kept(kept.as_slice(), serial) {
-        kept.push(serial)?;
+    if key.ticket.route == 1 && !is_kept(in_progress.as_slice(), serial) {
+        in_progress.push(serial)?;
     }
     Ok(())
 }
@@ -44,7 +44,7 @@ fn take_out(files: &mut Vec<StoredFile<'_>>, serial: u64)
     files.retain(|file| file.serial != serial);
 }
 
-impl<'a> Platform<'a> {
+impl<'a> ListPlatform<'a> {
     // An attempt that no check let begin is spent.
     pub(super) fn close(
         &mut self,
@@ -56,14 +56,14 @@ impl<'a> Platform<'a> {
         requires rests { find is_open self.old.list ≡ None }
         requires batches { self.old.batches ≤ 2 ^ 63 }
         requires steps { report.old.steps ≤ 2 ^ 31 }
-        ensures ok { OnOk result (at self.new report.new ≡ record { machine = with_element self.old attempt.entry; left = []; report = with_lines (report_of report.old) (next_line self.old Try attempt.entry ∷ []) }) }
+        ensures ok { OnOk result (between_tasks self.new report.new ≡ record { machine = with_element self.old attempt.entry; left = []; report = with_lines (report_value report.old) (next_line self.old Try attempt.entry ∷ []) }) }
         ensures rests { OnOk result (find is_open self.new.list ≡ None) }
         ensures board { self.new.board ≡ self.old.board }
         ensures counts { OnOk result ((self.new.batches ≡ self.old.batches + 1) × (report.new.steps ≡ report.old.steps + 1)) }
     {
         let line = line_of(alloc, self.board, Kind::Try, self.done.len(), &attempt)?;
         report.lines.push(line)?;
-        keep(&mut self.kept, &attempt.key)?;
+        keep(&mut self.in_progress, &attempt.key)?;
         self.done.push(attempt)?;
         self.batches += 1;
         report.steps += 1;
@@ -76,7 +76,7 @@ impl<'a> Platform<'a> {
         requires rests { find is_open self.old.list ≡ None }
         requires batches { self.old.batches ≤ 2 ^ 63 }
         requires steps { report.old.steps ≤ 2 ^ 31 }
-        ensures value { at self.new report.new ≡ record { machine = with_claim self.old attempt.entry; left = []; report = one_step (report_of report.old) } }
+        ensures value { between_tasks self.new report.new ≡ record { machine = with_claim self.old attempt.entry; left = []; report = one_step (report_value report.old) } }
         ensures pends { IsSome (find is_open self.new.list) }
         ensures board { self.new.board ≡ self.old.board }
         ensures counts { (self.new.batches ≡ self.old.batches + 1) × (report.new.steps ≡ report.old.steps + 1) }
@@ -96,7 +96,7 @@ impl<'a> Platform<'a> {
         requires pends { IsSome (find is_open self.old.list) }
         requires batches { self.old.batches ≤ 2 ^ 63 }
         requires steps { report.old.steps ≤ 2 ^ 31 }
-        ensures ok { OnOk result (at self.new report.new ≡ whole thin (at self.old report.old) (Settles kind Sealed)) }
+        ensures ok { OnOk result (between_tasks self.new report.new ≡ task_done thin (between_tasks self.old report.old) (Settles kind Sealed)) }
         ensures rests { OnOk result (find is_open self.new.list ≡ None) }
         ensures board { self.new.board ≡ self.old.board }
         ensures counts { OnOk result ((self.new.batches ≡ self.old.batches + 1) × (report.new.steps ≡ report.old.steps + 1)) }
@@ -108,7 +108,7 @@ impl<'a> Platform<'a> {
         attempt.standing = Standing::Closed(End::Sealed);
         let line = line_of(alloc, self.board, kind, self.done.len(), &attempt)?;
         report.lines.push(line)?;
-        keep(&mut self.kept, &attempt.key)?;
+        keep(&mut self.in_progress, &attempt.key)?;
         self.done.push(attempt)?;
         self.batches += 1;
         report.steps += 1;
@@ -118,7 +118,7 @@ impl<'a> Platform<'a> {
     // A file is taken out of the folder.
     pub(super) fn remove(&mut self, serial: u64, report: &mut Report) -> Result<(), NoMemory>
         requires steps { report.old.steps ≤ 2 ^ 31 }
-        ensures ok { OnOk result (at self.new report.new ≡ whole thin (at self.old report.old) (Removes serial)) }
+        ensures ok { OnOk result (between_tasks self.new report.new ≡ task_done thin (between_tasks self.old report.old) (Removes serial)) }
         ensures list { self.new.list ≡ self.old.list }
         ensures board { self.new.board ≡ self.old.board }
         ensures counts { OnOk result ((self.new.batches ≡ self.old.batches) × (report.new.steps ≡ report.old.steps + 1)) }
@@ -133,12 +133,12 @@ impl<'a> Platform<'a> {
     pub(super) fn clear(&mut self, alloc: Global, report: &mut Report)
         requires batches { self.old.batches ≤ 2 ^ 63 }
         requires steps { report.old.steps ≤ 2 ^ 31 }
-        ensures value { at self.new report.new ≡ whole thin (at self.old report.old) Clears }
+        ensures value { between_tasks self.new report.new ≡ task_done thin (between_tasks self.old report.old) Clears }
         ensures board { self.new.board ≡ self.old.board }
         ensures counts { (self.new.batches ≡ self.old.batches + 1) × (report.new.steps ≡ report.old.steps + 1) }
     {
         self.asked = false;
-        self.kept = Serials::new(alloc);
+        self.in_progress = Serials::new(alloc);
         self.batches += 1;
         report.steps += 1;
     }

@@ -1,7 +1,7 @@
 use Rattle.std.proofs.Common.{◌≡◌, ◌≤◌, map, take}
 use Rattle.std.specs.Prelude.{IsTrue, bytes_eq}
 use Rattle.std.specs.List.{list_all}
-use Rattle.reset_play.specs.Laws.{Distinct}
+use Rattle.reference_machine.specs.Laws.{Distinct}
 use Rattle.reset_play.specs.Plays.{is_thin_on}
 use Rattle.capsule_tool.specs.Readings.{seen}
 use Rattle.capsule_tool.specs.declared.limits.TheConstants.{MAX_NAMED_BYTES}

@@ -1,5 +1,5 @@
 use Rattle.std.proofs.Common.{ℕ, List, [], Option, option_map, unwrap_or, ap}
-use Rattle.reset_play.specs.Formats.{Parts}
+use Rattle.reference_machine.specs.Formats.{Parts}
 use Rattle.reset_play.proofs.thin_play.attempt.parts_of.Goals as goal
 
 abbrev version : Option Parts → ℕ

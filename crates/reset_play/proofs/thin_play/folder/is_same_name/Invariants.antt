@@ -1,5 +1,5 @@
 use Rattle.std.proofs.Common.{◌≡◌, length}
-use Rattle.reset_play.specs.Names.{is_same_name}
+use Rattle.reference_machine.specs.Names.{is_same_name}
 use Rattle.reset_play.proofs.thin_play.folder.is_same_name.Given as goal
 
 -- what is left of the names is one name exactly where the names are

@@ -1,5 +1,5 @@
 use Rattle.std.proofs.Common.{◌≡◌, length}
-use Rattle.reset_play.specs.Names.{is_taken_before}
+use Rattle.reference_machine.specs.Names.{is_taken_before}
 use Rattle.reset_play.proofs.thin_play.folder.is_taken_before.Given as goal
 
 -- what is left of the names stands as the names do

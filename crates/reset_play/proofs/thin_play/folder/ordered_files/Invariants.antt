@@ -1,6 +1,6 @@
 use Rattle.std.proofs.Common.{◌≡◌, ◌≤◌, drop, length}
-use Rattle.reset_play.specs.Names.{is_taken_before}
-use Rattle.reset_play.specs.Order.{in_order}
+use Rattle.reference_machine.specs.Names.{is_taken_before}
+use Rattle.reference_machine.specs.Order.{in_order}
 use Rattle.reset_play.proofs.thin_play.folder.ordered_files.Given as goal
 
 -- the files behind those that are left stand in order

@@ -1,5 +1,5 @@
 use Rattle.std.proofs.Common.{rules}
-use Rattle.reset_play.specs.Names.{is_taken_before}
+use Rattle.reference_machine.specs.Names.{is_taken_before}
 use Rattle.reset_play.proofs.FolderLemmas.{put_at}
 use Rattle.reset_play.proofs.thin_play.folder.put_in_order.Goals as goal
 

@@ -1,5 +1,5 @@
 use Rattle.std.proofs.Common.{IsTrue, subst}
-use Rattle.reset_play.specs.declared.event.Event.{Event}
+use Rattle.reference_machine.specs.declared.event.Event.{Event}
 use Rattle.reset_play.specs.Plays.{can_play}
 use Rattle.reset_play.proofs.thin_play.running.answer_of.Goals as goal
 

@@ -1,7 +1,7 @@
 use Rattle.std.proofs.Common.{IsTrue, List, sym, subst}
 use Rattle.std.specs.List.{list_all}
-use Rattle.reset_play.specs.declared.event.Event.{Event}
-use Rattle.reset_play.specs.Machine.{Machine}
+use Rattle.reference_machine.specs.declared.event.Event.{Event}
+use Rattle.reference_machine.specs.Machine.{Machine}
 use Rattle.reset_play.specs.Plays.{can_play}
 use Rattle.reset_play.proofs.thin_play.running.play.Goals as goal
 

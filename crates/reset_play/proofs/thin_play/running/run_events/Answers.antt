@@ -1,30 +1,30 @@
 use Rattle.std.proofs.Common.{arith, ◌≡◌, ◌+◌, ◌∷◌, ◌++◌, List, [], map, take, drop, length, sym, ap, ◌∙◌, append_assoc}
 use Rattle.std.proofs.lemmas.List.{map_push}
-use Rattle.reset_play.specs.declared.event.Event.{Event}
-use Rattle.reset_play.specs.Events.{trace_of}
+use Rattle.reference_machine.specs.declared.event.Event.{Event}
+use Rattle.reference_machine.specs.Events.{trace_of}
 use Rattle.reset_play.specs.Plays.{acts_of}
 use Rattle.reset_play.specs.Thin.{thin}
-use Rattle.reset_play.specs.Told.{Said, said_of}
+use Rattle.reference_machine.specs.TraceValues.{EntryValue, entry_value}
 use Rattle.reset_play.proofs.PlayEvents.{taken_more, dropped_more, taken_whole, none_behind, length_more, told_next, machine_next}
 use Rattle.reset_play.proofs.thin_play.running.run_events.Goals as goal
 
 pub loop-event-preserved : goal.loop-event-preserved
 loop-event-preserved c =
-    let told : List Said = trace_of thin c.args.platform.now (acts_of c.args.loaded.now.items c.args.events.now) in
-    let rest : said_of c.in_ok-entry.entry ∷ trace_of thin c.answer_of.new.platform (acts_of c.args.loaded.now.items (drop (c.loop-event.event-index + 1) c.args.events.now)) ≡ drop c.loop-event.event-index told =
-    told_next c.args.loaded.now.items c.args.events.now c.loop-event.event-index c.event-item.result c.loop-event.platform c.answer_of.new.platform (said_of c.in_ok-entry.entry) c.event-item.is c.loop-event-test.true c.in_ok-entry.ensures.ok
+    let told : List EntryValue = trace_of thin c.args.platform.now (acts_of c.args.loaded.now.items c.args.events.now) in
+    let rest : entry_value c.in_ok-entry.entry ∷ trace_of thin c.answer_of.new.platform (acts_of c.args.loaded.now.items (drop (c.loop-event.event-index + 1) c.args.events.now)) ≡ drop c.loop-event.event-index told =
+    told_next c.args.loaded.now.items c.args.events.now c.loop-event.event-index c.event-item.result c.loop-event.platform c.answer_of.new.platform (entry_value c.in_ok-entry.entry) c.event-item.is c.loop-event-test.true c.in_ok-entry.ensures.ok
     ∙ c.loop-event.invariant.rest in
     let pushed : length c.push.new.self.items ≡ length c.loop-event.trace.items + 1 = ap length c.in_ok-push.ensures.ok ∙ length_more c.loop-event.trace.items c.in_ok-entry.entry in
     record {
       said =
-          ap (map said_of) c.in_ok-push.ensures.ok
-          ∙ map_push said_of c.loop-event.trace.items c.in_ok-entry.entry
-          ∙ ap (λ (l : List Said). l ++ said_of c.in_ok-entry.entry ∷ []) c.loop-event.invariant.said
-          ∙ append_assoc (map said_of c.args.trace.now.items) (take c.loop-event.event-index told) (said_of c.in_ok-entry.entry ∷ [])
-          ∙ sym (ap (λ (l : List Said). map said_of c.args.trace.now.items ++ l) (taken_more told c.loop-event.event-index (said_of c.in_ok-entry.entry) _ rest));
-      rest = dropped_more told c.loop-event.event-index (said_of c.in_ok-entry.entry) _ rest;
+          ap (map entry_value) c.in_ok-push.ensures.ok
+          ∙ map_push entry_value c.loop-event.trace.items c.in_ok-entry.entry
+          ∙ ap (λ (l : List EntryValue). l ++ entry_value c.in_ok-entry.entry ∷ []) c.loop-event.invariant.said
+          ∙ append_assoc (map entry_value c.args.trace.now.items) (take c.loop-event.event-index told) (entry_value c.in_ok-entry.entry ∷ [])
+          ∙ sym (ap (λ (l : List EntryValue). map entry_value c.args.trace.now.items ++ l) (taken_more told c.loop-event.event-index (entry_value c.in_ok-entry.entry) _ rest));
+      rest = dropped_more told c.loop-event.event-index (entry_value c.in_ok-entry.entry) _ rest;
       after =
-          machine_next c.args.loaded.now.items c.args.events.now c.loop-event.event-index c.event-item.result c.loop-event.platform c.answer_of.new.platform (said_of c.in_ok-entry.entry) c.event-item.is c.loop-event-test.true c.in_ok-entry.ensures.ok
+          machine_next c.args.loaded.now.items c.args.events.now c.loop-event.event-index c.event-item.result c.loop-event.platform c.answer_of.new.platform (entry_value c.in_ok-entry.entry) c.event-item.is c.loop-event-test.true c.in_ok-entry.ensures.ok
           ∙ c.loop-event.invariant.after;
       board = c.answer_of.ensures.board ∙ c.loop-event.invariant.board;
       batches = omega (arith, c.in_ok-entry.ensures.batches);
@@ -33,8 +33,8 @@ loop-event-preserved c =
 
 pub returns-clause-ok : goal.returns-clause-ok
 returns-clause-ok c =
-    let told : List Said = trace_of thin c.args.platform.now (acts_of c.args.loaded.now.items c.args.events.now) in
+    let told : List EntryValue = trace_of thin c.args.platform.now (acts_of c.args.loaded.now.items c.args.events.now) in
     let none : drop c.loop-event.event-index c.args.events.now ≡ [] = none_behind c.args.events.now c.loop-event.event-index c.loop-event-test.false in
     let rest : [] ≡ drop c.loop-event.event-index told =
     sym (ap (λ (es : List Event). trace_of thin c.loop-event.platform (acts_of c.args.loaded.now.items es)) none) ∙ c.loop-event.invariant.rest in
-    c.loop-event.invariant.said ∙ ap (λ (l : List Said). map said_of c.args.trace.now.items ++ l) (taken_whole told c.loop-event.event-index rest)
+    c.loop-event.invariant.said ∙ ap (λ (l : List EntryValue). map entry_value c.args.trace.now.items ++ l) (taken_whole told c.loop-event.event-index rest)

@@ -1,5 +1,5 @@
 use Rattle.std.proofs.Common.{◌∙◌, ◌&&◌}
-use Rattle.reset_play.specs.Spent.{is_of, is_closed}
+use Rattle.reference_machine.specs.Spent.{is_of, is_closed}
 use Rattle.reset_play.proofs.SpentLemmas.{some_pass}
 use Rattle.reset_play.proofs.thin_play.spent.is_file_spent.Goals as goal
 

@@ -1,0 +1,15 @@
+pub mod Boots
+pub mod Deliveries
+pub mod Events
+pub mod Formats
+pub mod Laws
+pub mod Machine
+pub mod Names
+pub mod Order
+pub mod Report
+pub mod Results
+pub mod Samples
+pub mod Spent
+pub mod Stops
+pub mod TraceValues
+pub mod Verdicts

@@ -1,0 +1,84 @@
+-- Whether an item may be tried on a device: the checks before a SetImage in their order, of which the first that fails
+-- refuses it with its LastAttemptStatus (UEFI 2.10, 23.4). They follow the checks of EDK II's FmpDevicePkg.
+use Rattle.std.specs.Prelude.{ℕ, Bool, true, false, ◌==◌, ◌&&◌, ◌||◌, not, nat_le, List, [], ◌∷◌, length, map, slice_get, bytes_eq, Option, None, Some, option_map, unwrap_or, if◌then◌else◌}
+use Rattle.std.specs.List.{list_any, list_all, enumerate_from}
+use Rattle.sha2.specs.Sha256.{sha256}
+use Rattle.cu_base.specs.declared.guid.Guid.{Guid}
+use Rattle.bench_model.specs.Boards.{BoardValue}
+use Rattle.reference_machine.specs.declared.attempt_status.TheConstants.{LAST_ATTEMPT_STATUS_ERROR_INSUFFICIENT_RESOURCES, LAST_ATTEMPT_STATUS_ERROR_INCORRECT_VERSION, LAST_ATTEMPT_STATUS_ERROR_INVALID_FORMAT, LAST_ATTEMPT_STATUS_ERROR_AUTH_ERROR, LAST_ATTEMPT_STATUS_ERROR_UNSATISFIED_DEPENDENCIES}
+use Rattle.reference_machine.specs.Formats.{Parts, Formats}
+use Rattle.reference_machine.specs.Deliveries.{BootUnit}
+use Rattle.reference_machine.specs.Spent.{floor_of, version_of, versions_of, dependency_of}
+use Rattle.reference_machine.specs.Machine.{Machine}
+
+-- the SHA-256 of the whole update image is listed
+abbrev pub is_admitted : BoardValue → List ℕ → Bool
+is_admitted board image = list_any (λ d. bytes_eq d.bytes (sha256 image)) board.digests
+
+-- the capacity of a device
+abbrev pub capacity_of : BoardValue → ℕ → ℕ
+capacity_of board d = unwrap_or (option_map (λ x. x.capacity) (slice_get board.devices d)) 0
+
+-- the versions of all devices, with that of one device replaced
+abbrev pub versions_with : Machine → ℕ → ℕ → List (Guid × ℕ)
+versions_with m d version =
+    map (λ p. (p.1.type_id, if p.0 == d then version else version_of m.board m.list p.0))
+    (enumerate_from 0 m.board.devices)
+
+-- a dependency section holds over versions: one that is not there does
+abbrev pub holds : Formats → List ℕ → List (Guid × ℕ) → Bool
+holds f section versions = length section == 0 || f.is_satisfied section versions
+
+-- the section of another device's image that holds goes on holding with a new version of device d
+abbrev pub goes_on_holding : Formats → Machine → ℕ → ℕ → ℕ → Bool
+goes_on_holding f m d version e =
+    e == d || not (holds f section (versions_of m.board m.list))
+    || holds f section (versions_with m d version)
+  where
+    section : List ℕ
+    section = dependency_of m.board m.list e
+
+-- the image's own section holds, and what holds of the other devices goes on holding
+abbrev pub keeps_dependencies : Formats → Machine → ℕ → Parts → Bool
+keeps_dependencies f m d p =
+    holds f p.dependency (versions_of m.board m.list)
+    && list_all (λ q. goes_on_holding f m d p.version q.0) (enumerate_from 0 m.board.devices)
+
+-- the image has its parts
+abbrev pub is_split : Option Parts → Bool
+is_split None = false
+is_split (Some parts) = true
+
+-- the parts of an image. What stands for those that it does not have decides nothing: the first check has failed.
+abbrev pub known_parts : Option Parts → Parts
+known_parts None = record { version = 0; lowest = 0; dependency = []; payload = [] }
+known_parts (Some parts) = parts
+
+-- the checks of a try whose image has these parts, in their order: whether each passes, and the status where it fails
+abbrev pub checks : Formats → Machine → BootUnit → Option Parts → List (Bool × ℕ)
+checks f m u parts =
+    (is_split parts, LAST_ATTEMPT_STATUS_ERROR_INVALID_FORMAT)
+    ∷ (is_admitted m.board u.image, LAST_ATTEMPT_STATUS_ERROR_AUTH_ERROR)
+    ∷ (nat_le (length p.payload) (capacity_of m.board d), LAST_ATTEMPT_STATUS_ERROR_INSUFFICIENT_RESOURCES)
+    ∷ (nat_le (floor_of m.board m.list d) p.version, LAST_ATTEMPT_STATUS_ERROR_INCORRECT_VERSION)
+    ∷ (keeps_dependencies f m d p, LAST_ATTEMPT_STATUS_ERROR_UNSATISFIED_DEPENDENCIES)
+    ∷ []
+  where
+    p : Parts
+    p = known_parts parts
+
+    d : ℕ
+    d = u.key.device
+
+-- the status of the first check that fails, none where all pass
+abbrev pub first_failed : List (Bool × ℕ) → Option ℕ
+first_failed [] = None
+first_failed ((passes, status) ∷ rest) = if passes then first_failed rest else Some status
+
+-- why a try whose image has these parts is refused
+abbrev pub refusal_with : Formats → Machine → BootUnit → Option Parts → Option ℕ
+refusal_with f m u parts = first_failed (checks f m u parts)
+
+-- why a try is refused
+abbrev pub refusal : Formats → Machine → BootUnit → Option ℕ
+refusal f m u = refusal_with f m u (f.parts u.image u.head.support)

@@ -1,0 +1,137 @@
+//! What holds of the reference machine, whatever is delivered, whatever fails, and whatever the formats say. Each law is the
+//! contract of a function that does nothing.
+
+ghost use Rattle.std.specs.Prelude.{◌≡◌, ◌<◌, ◌≤◌, ◌^◌, ◌↔◌, ℕ, List, [], ◌++◌, find, length, Some, None, true, false, if◌then◌else◌};
+ghost use Rattle.bench_model.specs.Boards.{BoardValue, IsBoard};
+ghost use Rattle.reference_machine.specs.Boots.{boot_at, boot_of};
+ghost use Rattle.reference_machine.specs.Deliveries.{BootUnit};
+ghost use Rattle.reference_machine.specs.Events.{Act, IsIn, Run, Step, cut_machines, is_memory_full, trace_of, machine_after};
+ghost use Rattle.reference_machine.specs.Formats.{Formats, Parts};
+ghost use Rattle.reference_machine.specs.Laws.{IsReached, IsPastMemory, Grows, OpenIsLast, AttemptsReachFloor, AreApart, StandInOrder, HaveDistinctKeys, SpentFilesHaveProgress, IsWithinLimits, SerialsAreGiven, KeepsLimits, TellNoFault};
+ghost use Rattle.reference_machine.specs.Machine.{Machine, fresh};
+ghost use Rattle.reference_machine.specs.Report.{ReportValue};
+ghost use Rattle.reference_machine.specs.Spent.{Element, is_open, floor_of};
+ghost use Rattle.reference_machine.specs.Stops.{Agrees};
+ghost use Rattle.reference_machine.specs.Stops.StopCause.{Volume};
+ghost use Rattle.reference_machine.specs.TraceValues.{EntryValue};
+ghost use Rattle.reference_machine.specs.Verdicts.{refusal_with, is_admitted, capacity_of, keeps_dependencies};
+ghost use Rattle.reference_machine.specs.declared.unit.End.{End};
+
+use crate::{
+    MAX_CAPSULE_ITEMS, MAX_DELIVERY_CAPSULES, MAX_FILES, MAX_MEMORY_BYTES, MAX_SEGMENTS, MAX_STAGED,
+};
+
+/// The floor in force of a device never falls along the list of spent units.
+#[tactic(auto, using(crate::proofs::Floors::never_falls))]
+pub fn floor_never_falls()
+    ensures { (board : BoardValue) (before rest : List Element) (d : ℕ) → floor_of board before d ≤ floor_of board (before ++ rest) d }
+{}
+
+/// No attempt has a version below the floor in force where it stands.
+pub fn attempts_reach_the_floor()
+    ensures { (f : Formats) (board : BoardValue) (m : Machine) → IsReached f board m → AttemptsReachFloor m.board m.list }
+{}
+
+/// At most one spent unit is open, and it is the last.
+pub fn the_last_alone_is_open()
+    ensures { (f : Formats) (board : BoardValue) (m : Machine) → IsReached f board m → OpenIsLast m.list }
+{}
+
+/// Files have distinct names and distinct serials, and so have staged deliveries; no serial is above the last one.
+pub fn deliveries_are_apart()
+    ensures { (f : Formats) (board : BoardValue) (m : Machine) → IsReached f board m → AreApart m }
+{}
+
+/// The units of one delivery stand in order, without gaps from 0, and no key stands twice.
+pub fn units_stand_in_order()
+    ensures order { (f : Formats) (board : BoardValue) (m : Machine) → IsReached f board m → StandInOrder m.list }
+    ensures keys { (f : Formats) (board : BoardValue) (m : Machine) → IsReached f board m → HaveDistinctKeys m.list }
+{}
+
+/// A file of which units are spent has its progress stored.
+pub fn spent_files_have_progress()
+    ensures { (f : Formats) (board : BoardValue) (m : Machine) → IsReached f board m → SpentFilesHaveProgress m }
+{}
+
+/// Files, staged deliveries and the serials of stored progress are within their limits. The serials of spent units and those of stored progress
+/// are at most the last ones, and a staged delivery has no spent unit.
+pub fn limits_are_kept()
+    ensures limits { (f : Formats) (board : BoardValue) (m : Machine) → IsReached f board m → IsWithinLimits m }
+    ensures serials { (f : Formats) (board : BoardValue) (m : Machine) → IsReached f board m → SerialsAreGiven m }
+{}
+
+/// A boot has fewer than 2^20 steps, finished or stopped, where a delivery holds at most 8 capsules.
+pub fn a_boot_is_short()
+    ensures { (f : Formats) (board : BoardValue) (m : Machine) → KeepsLimits f → IsBoard board → IsReached f board m →
+        (h : End) (j : ℕ) → (boot_at f m h j).report.steps < 2 ^ 20 }
+{}
+
+/// Events that tell no fault tell one trace and leave one machine, and there is such a run of any events.
+pub fn without_faults_there_is_one_machine()
+    ensures one { (f : Formats) (board : BoardValue) (acts : List Act) (told : List EntryValue) (m : Machine) →
+        Run f (fresh board) acts told m → TellNoFault told →
+        (told ≡ trace_of f (fresh board) acts) × (m ≡ machine_after f (fresh board) acts) }
+    ensures some { (f : Formats) (board : BoardValue) (acts : List Act) →
+        Run f (fresh board) acts (trace_of f (fresh board) acts) (machine_after f (fresh board) acts) }
+{}
+
+/// The list of spent units only grows, but for its last element closing: by each event, and by the steps of a boot.
+pub fn the_list_only_grows()
+    ensures events { (f : Formats) (board : BoardValue) (m : Machine) → IsReached f board m →
+        (act : Act) (entry : EntryValue) (new : Machine) → Step f m act entry new →
+        Grows m.list new.list }
+    ensures boots { (f : Formats) (board : BoardValue) (m : Machine) → IsReached f board m →
+        (h : End) (j : ℕ) → Grows m.list (boot_at f m h j).machine.list }
+{}
+
+/// Nothing is left of a whole boot.
+#[tactic(auto, using(crate::proofs::Ending::boot_ends))]
+pub fn a_whole_boot_is_done()
+    ensures { (f : Formats) (m : Machine) (h : End) → (boot_of f m h).left ≡ [] }
+{}
+
+/// No boot is stopped by the volume before its heal: where an element is open, a report that agrees then tells a step.
+#[tactic(auto, using(crate::proofs::Reading::healed_before))]
+pub fn the_heal_stands_before_the_volume()
+    ensures { (f : Formats) (m : Machine) (h : End) (r : ReportValue) (new : Machine) (e : Element) →
+        find is_open m.list ≡ Some e → Agrees f m h r Volume new → 0 < r.steps }
+{}
+
+/// The machines of an event that is cut off are reached.
+pub fn cut_events_leave_reached_machines()
+    ensures { (f : Formats) (board : BoardValue) (m : Machine) → IsReached f board m →
+        (act : Act) (new : Machine) → IsIn new (cut_machines f m act) → IsReached f board new }
+{}
+
+/// The limits of a platform, in numbers.
+pub fn the_limits_are_these()
+    ensures files { MAX_FILES ≡ 32 }
+    ensures staged { MAX_STAGED ≡ 8 }
+    ensures segments { MAX_SEGMENTS ≡ 256 }
+    ensures memory { MAX_MEMORY_BYTES ≡ 134217728 }
+    ensures capsules { MAX_DELIVERY_CAPSULES ≡ 8 }
+    ensures items { MAX_CAPSULE_ITEMS ≡ 16 }
+{}
+
+/// Memory is full exactly where no more segments may be laid, or not so many bytes.
+#[tactic(auto, using(crate::proofs::Reading::memory_full))]
+pub fn memory_is_full_past_its_limits()
+    ensures { (m : Machine) (bytes : List ℕ) → is_memory_full m bytes ≡ true ↔ IsPastMemory m bytes }
+{}
+
+/// The checks of a try stand in this order, each refusing with its LastAttemptStatus (UEFI 2.10, 23.4).
+pub fn the_checks_stand_in_order()
+    ensures format { (f : Formats) (m : Machine) (u : BootUnit) → refusal_with f m u None ≡ Some 4 }
+    ensures admission { (f : Formats) (m : Machine) (u : BootUnit) (p : Parts) →
+        is_admitted m.board u.image ≡ false → refusal_with f m u (Some p) ≡ Some 5 }
+    ensures capacity { (f : Formats) (m : Machine) (u : BootUnit) (p : Parts) →
+        is_admitted m.board u.image ≡ true → capacity_of m.board u.key.device < length p.payload →
+        refusal_with f m u (Some p) ≡ Some 2 }
+    ensures version { (f : Formats) (m : Machine) (u : BootUnit) (p : Parts) →
+        is_admitted m.board u.image ≡ true → length p.payload ≤ capacity_of m.board u.key.device →
+        p.version < floor_of m.board m.list u.key.device → refusal_with f m u (Some p) ≡ Some 3 }
+    ensures dependencies { (f : Formats) (m : Machine) (u : BootUnit) (p : Parts) →
+        is_admitted m.board u.image ≡ true → length p.payload ≤ capacity_of m.board u.key.device →
+        floor_of m.board m.list u.key.device ≤ p.version → refusal_with f m u (Some p) ≡
+        (if keeps_dependencies f m u.key.device p then None else Some 8) }
+{}

@@ -1,5 +1,0 @@
-use Rattle.reset_play.proofs.Reached.{stand_in_order, keys_apart}
-use Rattle.reset_play.proofs.laws.units_stand_in_order.Goals as goal
-
-pub returns : goal.returns
-returns c = record { order = stand_in_order; keys = keys_apart }
