@@ -24,6 +24,7 @@ mod outside_limits;
 mod phys_mem;
 mod plan;
 mod segment;
+mod segments;
 #[cfg(test)]
 mod tests;
 mod volume;
@@ -51,4 +52,5 @@ pub use outside_limits::{
 pub use phys_mem::PhysMem;
 pub use plan::{Armed, Call, Plan, Strike};
 pub use segment::Segment;
+pub use segments::Segments;
 pub use volume::Volume;
