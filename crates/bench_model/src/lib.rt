@@ -14,6 +14,7 @@ mod counts;
 mod device;
 mod devices;
 mod faults;
+mod file_names;
 mod flash;
 pub mod laws;
 mod limits;
@@ -36,6 +37,7 @@ pub use counts::Counts;
 pub use device::Device;
 pub use devices::Devices;
 pub use faults::{LayFault, VolumeFault};
+pub use file_names::{is_file_name, is_same_name};
 pub use flash::{BenchState, Flash};
 pub use limits::{
     BANK_BASE, MAX_BANK, MAX_CAPACITIES, MAX_CAPACITY, MAX_DEVICE_NAME, MAX_DEVICES, MAX_DIGESTS,
