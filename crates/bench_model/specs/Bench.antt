@@ -16,7 +16,7 @@ use Rattle.bench_model.specs.declared.orders.Ordered.{Ordered}
 use Rattle.bench_model.specs.declared.plan.Call.{Call}
 use Rattle.bench_model.specs.declared.plan.Plan.{Plan}
 use Rattle.bench_model.specs.declared.segment.Segment.{Segment}
-use Rattle.bench_model.specs.Files.{Folder, ListedFile, listed, has_serial, file_bytes, is_folder_full, with_put, without_serial}
+use Rattle.bench_model.specs.Files.{FolderValue, ListedFile, listed, has_serial, file_bytes, is_folder_full, with_put, without_serial}
 use Rattle.bench_model.specs.Memory.{lay_refusal, with_segment}
 use Rattle.bench_model.specs.Plans.{no_plan, is_off, is_struck, strike_of, after_call, with_arm, with_fail}
 use Rattle.bench_model.specs.Regions.{Region, IsImage, IsStable, KeepsImages, ReadsAs, Syncs, Writes}
@@ -25,7 +25,7 @@ use Rattle.bench_model.specs.Regions.{Region, IsImage, IsStable, KeepsImages, Re
 pub record Rest : Type 0 where
   pub begun : ℕ → List Ticket  -- the tickets that were begun, by device, in order
   pub open_device : Option ℕ  -- the device whose region may be written: it was begun and not ended
-  pub folder : Folder
+  pub folder : FolderValue
   pub memory : List Segment
 
 -- what a bench holds: all but its counts, its plan and its orders
@@ -132,7 +132,7 @@ abbrev pub after_end : Contents → Contents
 after_end s = record s { rest = record s.rest { open_device = None } }
 
 -- the contents with another folder
-abbrev pub with_folder : Contents → Folder → Contents
+abbrev pub with_folder : Contents → FolderValue → Contents
 with_folder s folder = record s { rest = record s.rest { folder = folder } }
 
 -- the contents with another memory

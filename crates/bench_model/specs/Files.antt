@@ -12,7 +12,7 @@ pub record File : Type 0 where
   pub bytes : List ℕ
 
 -- the files of a volume, and the last serial that was drawn
-pub record Folder : Type 0 where
+pub record FolderValue : Type 0 where
   pub files : List File
   pub last_serial : ℕ
 
@@ -56,21 +56,21 @@ bytes_in files = sum_by (λ x. length x.bytes) files
 
 -- the folder takes no further file of this name and size: 64 files are there and the name is new, or the bytes of all would
 -- pass their limit, or no serial is left
-abbrev pub is_folder_full : Folder → List ℕ → ℕ → Bool
+abbrev pub is_folder_full : FolderValue → List ℕ → ℕ → Bool
 is_folder_full folder name size =
     nat_le MAX_FILES (length folder.files) && not (has_file name folder.files)
     || nat_lt MAX_FOLDER_BYTES (bytes_in (others_than name folder.files) + size)
     || nat_le (2 ^ 64 - 1) folder.last_serial
 
 -- the folder with a file put into it: it takes the place of one of the same name, and has the next serial
-abbrev pub with_put : Folder → List ℕ → List ℕ → Folder
+abbrev pub with_put : FolderValue → List ℕ → List ℕ → FolderValue
 with_put folder name bytes = record {
   files = others_than name folder.files ++ record { name = name; serial = folder.last_serial + 1; bytes = bytes } ∷ [];
   last_serial = folder.last_serial + 1;
 }
 
 -- the folder without the file of this serial
-abbrev pub without_serial : Folder → ℕ → Folder
+abbrev pub without_serial : FolderValue → ℕ → FolderValue
 without_serial folder serial = record folder { files = filter (λ x. not (x.serial == serial)) folder.files }
 
 -- a file in a listing keeps the limits of names and sizes

@@ -39,6 +39,13 @@ is_struck Off = true
 is_struck (Cut choice) = true
 is_struck Fault = true
 
+-- the call has no power, so it does nothing
+abbrev pub has_no_power : Strike → Bool
+has_no_power Passes = false
+has_no_power Off = true
+has_no_power (Cut choice) = false
+has_no_power Fault = false
+
 -- the choice of the cut that strikes this call
 abbrev pub cut_now : Call → Option Armed → Option Choice
 cut_now Look armed = None

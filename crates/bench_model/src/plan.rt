@@ -1,5 +1,6 @@
-ghost use Rattle.std.specs.Prelude.{◌≡◌, if◌then◌else◌};
-ghost use Rattle.bench_model.specs.Plans.{no_plan, is_off, strike_of, is_struck, after_call, strikes_next, failing_after};
+ghost use Rattle.std.specs.Prelude.{◌≡◌, IsTrue, if◌then◌else◌};
+ghost use Rattle.std.specs.Bool.{OnTrue};
+ghost use Rattle.bench_model.specs.Plans.{no_plan, is_off, strike_of, is_struck, has_no_power, after_call, strikes_next, failing_after};
 
 use crate::Choice;
 
@@ -96,6 +97,14 @@ impl Strike {
         ensures { result ≡ is_struck self }
     {
         !matches!(self, Strike::Passes)
+    }
+
+    /// Whether power is off, so that the call does nothing.
+    pub fn has_no_power(self) -> bool
+        ensures value { result ≡ has_no_power self }
+        ensures struck { OnTrue result (IsTrue (is_struck self)) }
+    {
+        matches!(self, Strike::Off)
     }
 }
 

@@ -69,6 +69,14 @@ impl Segments {
         Ok(())
     }
 
+    /// Empties the memory.
+    pub fn clear(&mut self)
+        ensures { self.new ≡ [] }
+    {
+        self.list = Items::new(self.alloc);
+        self.total = 0;
+    }
+
     /// The segments in the order in which they were laid.
     pub fn as_slice(&self) -> &[Segment]
         ensures value { result.now ≡ self.now }
