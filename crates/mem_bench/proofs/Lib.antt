@@ -1,2 +1,3 @@
+pub mod FactoryLemmas
 pub mod FolderLemmas
 pub mod RegionLemmas

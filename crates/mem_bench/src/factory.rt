@@ -1,6 +1,7 @@
 //! What a board leaves the factory with: a bank with an empty log, a blank one, and sealed devices.
 
 ghost use Rattle.std.specs.Prelude.{◌≡◌, ◌≤◌, [], ◌∷◌, ◌++◌, length, map, replicate, IfOk, OnOk};
+ghost use Rattle.bench_model.specs.Devices.{AreDevices};
 ghost use Rattle.bench_model.specs.Factory.{bank_head, filled, first_device, first_regions, region_size, slot_head};
 ghost use Rattle.mem_bench.specs.Parts.{no_tickets};
 ghost use Rattle.mem_bench.specs.Regions.{stable_region};
@@ -31,10 +32,24 @@ pub fn first_regions(alloc: Global, board: &Board) -> Result<Vec<Region>, NoMemo
     let head = bank_head(alloc, board.store())?;
     push(&mut regions, headed(alloc, board.bank(), head.as_slice())?)?;
     push(&mut regions, headed(alloc, board.bank(), &[])?)?;
-    for device in board.devices() {
-        push(&mut regions, first_device(alloc, board.two_banks(), device)?)?;
-    }
+    push_devices(alloc, &mut regions, board.two_banks(), board.devices())?;
     Ok(regions)
+}
+
+/// Appends the regions of devices.
+fn push_devices(
+    alloc: Global,
+    regions: &mut Vec<Region>,
+    two_banks: bool,
+    devices: &[Device],
+) -> Result<(), NoMemory>
+    requires { AreDevices devices.now }
+    ensures { OnOk result (regions.new.items ≡ regions.old.items ++ map stable_region (map (first_device two_banks) devices.now)) }
+{
+    for device in devices {
+        push(regions, first_device(alloc, two_banks, device)?)?;
+    }
+    Ok(())
 }
 
 /// No tickets of any device.
