@@ -173,7 +173,7 @@ fn all_items_are_read(
         assert_eq!(rt; fmp.drivers.len(), drivers);
         assert_eq!(rt; fmp.images.len(), images);
     } else {
-        assert!(rt; false);
+        assert!(rt; false, "the body is that of an FMP capsule");
     }
     written_again(rt, &read, alloc, bytes.as_slice())?;
     let rebuilt = rebuild(alloc, bytes.as_slice())?;
@@ -249,7 +249,7 @@ fn a_lead_and_a_pad_are_kept(rt: HostRuntime) -> Result<(), Fail> {
         let pad = fmp.images.at(0).map(|i| i.pad.len());
         assert_eq!(rt; pad, Some(3));
     } else {
-        assert!(rt; false);
+        assert!(rt; false, "the body is that of an FMP capsule");
     }
     Ok(())
 }
@@ -310,7 +310,7 @@ fn refusals_reach_the_caller(rt: HostRuntime) {
                 }
             );
         }
-        _ => assert!(rt; false),
+        _ => assert!(rt; false, "a capsule was read"),
     }
 }
 
@@ -327,7 +327,7 @@ fn copies(alloc: Global, count: u32) -> Result<Blob, Fail> {
 fn all_refused(rt: &impl Abort, alloc: Global, bytes: &[u8], at: u32, why: Why) {
     match decode_all(alloc, bytes) {
         Err(DecodeFault::Refused(refusal)) => assert_eq!(rt; refusal, Refusal { at, why }),
-        _ => assert!(rt; false),
+        _ => assert!(rt; false, "capsules were read"),
     }
 }
 
