@@ -197,7 +197,7 @@ step : (n : ℕ) (cs : List Capsule) (at : ℕ) (bytes : List ℕ) (r : Option (
     → Before cs at bytes → length cs + suc n ≡ 8 → (0 < length cs → at < length bytes)
     → refusal (drop at bytes) ≡ r
     → ((new : List Capsule) (to : ℕ) → Before new to bytes → length new + n ≡ 8
-        → (0 < length new → to < length bytes) → Decided bytes)
+    → (0 < length new → to < length bytes) → Decided bytes)
     → Decided bytes
 step n cs at bytes (Some r) is b count more e next =
     inr (r.0 + at, r.1, refused_rest cs at r.0 (r.0 + at) r.1 r.1 bytes b (omega (arith, count)) more e refl refl)

@@ -3,8 +3,8 @@
 ghost use Rattle.std.specs.Prelude.{◌≤◌, length};
 
 use crate::{
-    Body, Capsule, DecodeFault, EncodeFault, Refusal, Why, check, check_fmp_header, check_image, check_offsets,
-    decode, decode_all, encode, fits, is_rebuilt, item_count, rebuild, start_of,
+    Body, Capsule, DecodeFault, EncodeFault, Refusal, Why, check, check_fmp_header, check_image,
+    check_offsets, decode, decode_all, encode, fits, is_rebuilt, item_count, rebuild, start_of,
 };
 use cu_base::{Blob, put_u16, put_u32, put_u64};
 use std::alloc::Global;
@@ -422,18 +422,42 @@ fn an_image_is_judged_by_its_head(rt: HostRuntime) {
 #[test]
 fn causes_have_a_text(rt: HostRuntime) -> Result<(), Fail> {
     let cases = [
-        (Why::Short, "the bytes end before the structure that begins there does"),
-        (Why::BadHeaderSize, "HeaderSize is below 28 or above CapsuleImageSize"),
-        (Why::BadImageSize, "CapsuleImageSize is above 67108864 or above the bytes that are there"),
-        (Why::BadFmpVersion, "the version of the FMP capsule header is not 1"),
-        (Why::BadImageVersion, "the version of the image header is not 1, 2 or 3"),
+        (
+            Why::Short,
+            "the bytes end before the structure that begins there does",
+        ),
+        (
+            Why::BadHeaderSize,
+            "HeaderSize is below 28 or above CapsuleImageSize",
+        ),
+        (
+            Why::BadImageSize,
+            "CapsuleImageSize is above 67108864 or above the bytes that are there",
+        ),
+        (
+            Why::BadFmpVersion,
+            "the version of the FMP capsule header is not 1",
+        ),
+        (
+            Why::BadImageVersion,
+            "the version of the image header is not 1, 2 or 3",
+        ),
         (
             Why::OffsetsOutside,
             "an item begins within the item offset list or behind the end of the capsule",
         ),
-        (Why::OffsetsNotRising, "an item does not begin behind the item before it"),
-        (Why::ImageOutside, "image header, image and vendor code pass the end of their item"),
-        (Why::TooManyCapsules, "more than eight capsules stand back to back"),
+        (
+            Why::OffsetsNotRising,
+            "an item does not begin behind the item before it",
+        ),
+        (
+            Why::ImageOutside,
+            "image header, image and vendor code pass the end of their item",
+        ),
+        (
+            Why::TooManyCapsules,
+            "more than eight capsules stand back to back",
+        ),
     ];
     for (why, text) in cases {
         let printed = format!(in rt.alloc(); "{why}")?;

@@ -232,10 +232,22 @@ fn causes_have_a_text(rt: HostRuntime) -> Result<(), Fail> {
         (DepWhy::NoEnd, "the bytes end before the operation END"),
         (DepWhy::BadOpcode, "there is no operation of this byte"),
         (DepWhy::CutOperand, "the bytes end before the operand does"),
-        (DepWhy::LateDeclare, "DECLARE_LENGTH stands behind another operation"),
-        (DepWhy::WrongDeclare, "the declared length is not that of the section"),
-        (DepWhy::BadTypes, "an operand of the operation is missing or of the other type"),
-        (DepWhy::NotOneBool, "the section does not leave exactly one truth value"),
+        (
+            DepWhy::LateDeclare,
+            "DECLARE_LENGTH stands behind another operation",
+        ),
+        (
+            DepWhy::WrongDeclare,
+            "the declared length is not that of the section",
+        ),
+        (
+            DepWhy::BadTypes,
+            "an operand of the operation is missing or of the other type",
+        ),
+        (
+            DepWhy::NotOneBool,
+            "the section does not leave exactly one truth value",
+        ),
         (DepWhy::TooLong, "the section is longer than 4096 bytes"),
     ];
     for (why, text) in cases {

@@ -79,10 +79,7 @@ fn check_certificate(image: &[u8]) -> Result<(), PartFault>
         return Err(PartFault::new(REVISION_AT as u32, PartWhy::BadRevision));
     }
     if u16_at(image, CERTIFICATE_TYPE_AT) != CERTIFICATE_TYPE {
-        return Err(PartFault::new(
-            CERTIFICATE_TYPE_AT as u32,
-            PartWhy::BadCertType,
-        ));
+        return Err(PartFault::new(CERTIFICATE_TYPE_AT as u32, PartWhy::BadCertType));
     }
     Ok(())
 }

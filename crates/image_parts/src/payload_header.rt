@@ -40,10 +40,7 @@ pub fn read_head(rest: &[u8], start: usize) -> Result<PayloadHead, PartFault>
     }
     let header_size = u32_at(rest, HEADER_SIZE_AT);
     if (header_size as usize) < FIELD_BYTES || rest.len() < header_size as usize {
-        return Err(PartFault::new(
-            at + HEADER_SIZE_AT as u32,
-            PartWhy::BadPayloadHeaderSize,
-        ));
+        return Err(PartFault::new(at + HEADER_SIZE_AT as u32, PartWhy::BadPayloadHeaderSize));
     }
     Ok(PayloadHead {
         header_size,

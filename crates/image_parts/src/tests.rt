@@ -267,16 +267,34 @@ fn the_digest_of_the_whole_image_admits_it(rt: HostRuntime) {
 #[test]
 fn causes_have_a_text(rt: HostRuntime) -> Result<(), Fail> {
     let cases = [
-        (PartWhy::ShortAuth, "the image ends before the fields of its authentication data do"),
-        (PartWhy::BadRevision, "wRevision of the certificate is not 0x0200"),
-        (PartWhy::BadCertType, "wCertificateType of the certificate is not 0x0EF1"),
+        (
+            PartWhy::ShortAuth,
+            "the image ends before the fields of its authentication data do",
+        ),
+        (
+            PartWhy::BadRevision,
+            "wRevision of the certificate is not 0x0200",
+        ),
+        (
+            PartWhy::BadCertType,
+            "wCertificateType of the certificate is not 0x0EF1",
+        ),
         (
             PartWhy::BadAuthLength,
             "dwLength of the certificate is below 24 or passes the end of the image",
         ),
-        (PartWhy::Dep(DepWhy::NoEnd), "dependency section: the bytes end before the operation END"),
-        (PartWhy::ShortPayloadHeader, "the image ends before the fields of its payload header do"),
-        (PartWhy::BadSignature, "the signature of the payload header is not MSS1"),
+        (
+            PartWhy::Dep(DepWhy::NoEnd),
+            "dependency section: the bytes end before the operation END",
+        ),
+        (
+            PartWhy::ShortPayloadHeader,
+            "the image ends before the fields of its payload header do",
+        ),
+        (
+            PartWhy::BadSignature,
+            "the signature of the payload header is not MSS1",
+        ),
         (
             PartWhy::BadPayloadHeaderSize,
             "HeaderSize of the payload header is below 16 or passes the end of the image",
