@@ -29,7 +29,7 @@ each_push : (cs : List Capsule) (c : Capsule) → AllByRecursion IsCapsule cs �
 each_push [] c each is = (is, tt)
 each_push (x ∷ cs) c each is = (each.0, each_push cs c each.1 is)
 
-before_grown : (cs : List Capsule) (c : Capsule) (at size : ℕ) (bytes : List ℕ) → Before cs at bytes → IsCapsule c → size ≡ length (spelling c) → take size (drop at bytes) ≡ spelling c → Before (cs ++ c ∷ []) (at + size) bytes
+pub before_grown : (cs : List Capsule) (c : Capsule) (at size : ℕ) (bytes : List ℕ) → Before cs at bytes → IsCapsule c → size ≡ length (spelling c) → take size (drop at bytes) ≡ spelling c → Before (cs ++ c ∷ []) (at + size) bytes
 before_grown cs c at size bytes b is size_is here = record {
   each = each_push cs c b.each is;
   front = sym (flat_map_more spelling [] cs c) ∙ append_both (flat_map spelling cs) (take at bytes) (spelling c) (take size (drop at bytes)) b.front (sym here) ∙ take_field bytes at size;
@@ -61,7 +61,7 @@ one_more cs at bytes b count more = record {
   refused = inl (record { count = count; more = omega (arith, length-drop at bytes); place = sym (place_is cs at bytes b); cause = refl });
 }
 
-refused_rest : (cs : List Capsule) (at from to : ℕ) (why told : Why) (bytes : List ℕ) → Before cs at bytes → length cs < 8 → (0 < length cs → at < length bytes) → refusal (drop at bytes) ≡ Some (from, why) → to ≡ from + at → told ≡ why → RefusedAll bytes to told
+pub refused_rest : (cs : List Capsule) (at from to : ℕ) (why told : Why) (bytes : List ℕ) → Before cs at bytes → length cs < 8 → (0 < length cs → at < length bytes) → refusal (drop at bytes) ≡ Some (from, why) → to ≡ from + at → told ≡ why → RefusedAll bytes to told
 refused_rest cs at from to why told bytes b few more e place cause = record {
   capsules = cs;
   rest = drop at bytes;

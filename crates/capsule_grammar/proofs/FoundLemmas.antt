@@ -33,7 +33,7 @@ one_front a b m n bytes ha hb =
     let same = sym (is_read a m bytes ha) ∙ is_read b n bytes hb in
     (same, ha.size ∙ ap (λ (c : Capsule). length (spelling c)) same ∙ sym hb.size)
 
-both : (refused : Option (ℕ × Why)) (r : ℕ × Why) → refused ≡ Some r → refused ≡ None → ⊥
+pub both : (refused : Option (ℕ × Why)) (r : ℕ × Why) → refused ≡ Some r → refused ≡ None → ⊥
 both None r some none = absurd cc
 both (Some s) r some none = absurd cc
 

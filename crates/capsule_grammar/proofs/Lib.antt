@@ -9,3 +9,4 @@ pub mod RebuiltLemmas
 pub mod SameLemmas
 pub mod Places
 pub mod BackLemmas
+pub mod AllLemmas

@@ -95,7 +95,9 @@ fn put_offsets(out: &mut Blob, body: &FmpBody) -> Result<(), NoMemory>
     ensures { OnOk result (out.new ≡ out.old ++ offset_list body.now) }
 {
     let items = item_count(body);
-    let mut here = FMP_HEADER_BYTES as u64 + OFFSET_BYTES as u64 * items as u64 + body.lead.len() as u64;
+    let mut here = FMP_HEADER_BYTES as u64
+        + OFFSET_BYTES as u64 * items as u64
+        + body.lead.len() as u64;
     for k in 0..items {
         put_u64(out, here)?;
         here += item_size(body, k);

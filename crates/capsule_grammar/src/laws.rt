@@ -1,11 +1,14 @@
 //! The laws of the grammar: one capsule has one spelling, no spelling begins another, and each list of
-//! bytes begins with one capsule or is refused at one place for one cause, never both.
+//! bytes begins with one capsule or is refused at one place for one cause, never both. The same holds of
+//! capsules back to back.
 
 ghost use Rattle.std.specs.Prelude.{◌≡◌, ℕ, List, [], ◌++◌, ◌⊎◌};
 ghost use Rattle.cu_base.specs.Bytes.{IsBytes};
 ghost use Rattle.capsule_grammar.specs.declared.all.TheConstants.{MAX_CAPSULES};
 ghost use Rattle.capsule_grammar.specs.declared.parts.TheConstants.{OFFSET_BYTES};
+ghost use Rattle.capsule_grammar.specs.declared.refusal.Why.{Why};
 ghost use Rattle.capsule_grammar.specs.declared.value.Capsule.{Capsule};
+ghost use Rattle.capsule_grammar.specs.BackToBack.{RefusedAll, SpellsAll};
 ghost use Rattle.capsule_grammar.specs.Spelling.{spelling};
 ghost use Rattle.capsule_grammar.specs.Fits.{IsCapsule};
 ghost use Rattle.capsule_grammar.specs.Fronts.{IsAccepted, IsRefusedOnce};
@@ -27,4 +30,29 @@ pub fn one_spelling()
 /// for one cause, and never both.
 pub fn begins_or_is_refused()
     ensures { (bytes : List ℕ) → IsBytes bytes → IsAccepted bytes ⊎ IsRefusedOnce bytes }
+{}
+
+/// Bytes are the spellings of one list of capsules back to back at most.
+pub fn one_list()
+    ensures { (a b : List Capsule) (bytes : List ℕ) →
+        SpellsAll a bytes → SpellsAll b bytes → a ≡ b }
+{}
+
+/// Bytes are one to eight capsules back to back, or are refused.
+pub fn all_or_refused()
+    ensures { (bytes : List ℕ) → IsBytes bytes →
+        ((capsules : List Capsule) × SpellsAll capsules bytes)
+        ⊎ ((at : ℕ) × (why : Why) × RefusedAll bytes at why) }
+{}
+
+/// Bytes that are capsules back to back are not refused.
+pub fn never_both()
+    ensures { (capsules : List Capsule) (bytes : List ℕ) (at : ℕ) (why : Why) →
+        SpellsAll capsules bytes → RefusedAll bytes at why → ⊥ }
+{}
+
+/// Bytes are refused as capsules back to back at one place for one cause.
+pub fn one_refusal()
+    ensures { (bytes : List ℕ) (at other : ℕ) (why cause : Why) →
+        RefusedAll bytes at why → RefusedAll bytes other cause → (at ≡ other) × (why ≡ cause) }
 {}

@@ -88,7 +88,10 @@ fn offset(front: &[u8], k: u32) -> u64
     requires there { k < item_count front.now }
     ensures { result ≡ offset front.now k }
 {
-    u64_at(front, FMP_HEADER_BYTES as usize + OFFSET_BYTES as usize * k as usize)
+    u64_at(
+        front,
+        FMP_HEADER_BYTES as usize + OFFSET_BYTES as usize * k as usize,
+    )
 }
 
 /// The refusal of one offset, if it is refused.

@@ -3,8 +3,8 @@
 ghost use Rattle.std.specs.Prelude.{◌≤◌, length};
 
 use crate::{
-    Body, Capsule, DecodeFault, Refusal, Why, check, check_fmp_header, check_image, check_offsets,
-    decode, decode_all, encode, fits, is_rebuilt, item_count, rebuild, start_of,
+    Body, Capsule, DecodeFault, EncodeFault, Refusal, Why, check, check_fmp_header, check_image,
+    check_offsets, decode, decode_all, encode, fits, is_rebuilt, item_count, rebuild, start_of,
 };
 use cu_base::{Blob, put_u16, put_u32, put_u64};
 use std::alloc::Global;
@@ -173,7 +173,7 @@ fn all_items_are_read(
         assert_eq!(rt; fmp.drivers.len(), drivers);
         assert_eq!(rt; fmp.images.len(), images);
     } else {
-        assert!(rt; false);
+        assert!(rt; false, "the body is that of an FMP capsule");
     }
     written_again(rt, &read, alloc, bytes.as_slice())?;
     let rebuilt = rebuild(alloc, bytes.as_slice())?;
@@ -249,7 +249,7 @@ fn a_lead_and_a_pad_are_kept(rt: HostRuntime) -> Result<(), Fail> {
         let pad = fmp.images.at(0).map(|i| i.pad.len());
         assert_eq!(rt; pad, Some(3));
     } else {
-        assert!(rt; false);
+        assert!(rt; false, "the body is that of an FMP capsule");
     }
     Ok(())
 }
@@ -310,7 +310,7 @@ fn refusals_reach_the_caller(rt: HostRuntime) {
                 }
             );
         }
-        _ => assert!(rt; false),
+        _ => assert!(rt; false, "a capsule was read"),
     }
 }
 
@@ -327,7 +327,7 @@ fn copies(alloc: Global, count: u32) -> Result<Blob, Fail> {
 fn all_refused(rt: &impl Abort, alloc: Global, bytes: &[u8], at: u32, why: Why) {
     match decode_all(alloc, bytes) {
         Err(DecodeFault::Refused(refusal)) => assert_eq!(rt; refusal, Refusal { at, why }),
-        _ => assert!(rt; false),
+        _ => assert!(rt; false, "capsules were read"),
     }
 }
 
@@ -417,4 +417,66 @@ fn an_image_is_judged_by_its_head(rt: HostRuntime) {
         check_image(&head, 88, 100),
         Err(refusal(100, Why::BadImageVersion))
     );
+}
+
+#[test]
+fn causes_have_a_text(rt: HostRuntime) -> Result<(), Fail> {
+    let cases = [
+        (
+            Why::Short,
+            "the bytes end before the structure that begins there does",
+        ),
+        (
+            Why::BadHeaderSize,
+            "HeaderSize is below 28 or above CapsuleImageSize",
+        ),
+        (
+            Why::BadImageSize,
+            "CapsuleImageSize is above 67108864 or above the bytes that are there",
+        ),
+        (
+            Why::BadFmpVersion,
+            "the version of the FMP capsule header is not 1",
+        ),
+        (
+            Why::BadImageVersion,
+            "the version of the image header is not 1, 2 or 3",
+        ),
+        (
+            Why::OffsetsOutside,
+            "an item begins within the item offset list or behind the end of the capsule",
+        ),
+        (
+            Why::OffsetsNotRising,
+            "an item does not begin behind the item before it",
+        ),
+        (
+            Why::ImageOutside,
+            "image header, image and vendor code pass the end of their item",
+        ),
+        (
+            Why::TooManyCapsules,
+            "more than eight capsules stand back to back",
+        ),
+    ];
+    for (why, text) in cases {
+        let printed = format!(in rt.alloc(); "{why}")?;
+        assert_eq!(rt; printed.as_str(), text);
+    }
+    Ok(())
+}
+
+#[test]
+fn faults_have_a_text(rt: HostRuntime) -> Result<(), Fail> {
+    let refused = DecodeFault::Refused(refusal(44, Why::OffsetsNotRising));
+    let printed = format!(in rt.alloc(); "{refused}")?;
+    assert_eq!(rt;
+        printed.as_str(),
+        "refused at 44: an item does not begin behind the item before it"
+    );
+    let memory = format!(in rt.alloc(); "{}", DecodeFault::Memory)?;
+    assert_eq!(rt; memory.as_str(), "out of memory");
+    let large = format!(in rt.alloc(); "{}", EncodeFault::TooLarge)?;
+    assert_eq!(rt; large.as_str(), "the capsule has more than 67108864 bytes");
+    Ok(())
 }

@@ -2,8 +2,8 @@
 //! each function that may want memory.
 
 use crate::{
-    BaseFault, Blob, EfiStatus, EfiTime, Guid, Numbers, Text, UNSPECIFIED_ZONE, put_u16, put_u32,
-    put_u64, read_u16, read_u32, read_u64,
+    BaseFault, Blob, EfiStatus, EfiTime, Failed, Guid, NoMemory, Numbers, Text, UNSPECIFIED_ZONE,
+    put_u16, put_u32, put_u64, read_u16, read_u32, read_u64,
 };
 use std::test::Fail;
 
@@ -260,5 +260,30 @@ fn bytes_and_texts_are_appended(rt: HostRuntime) -> Result<(), Fail> {
     let mut text = Text::from_str(rt.alloc(), "caps")?;
     text.push_str("ule")?;
     assert_eq!(rt; text.as_str(), "capsule");
+    Ok(())
+}
+
+#[test]
+fn faults_of_texts_have_a_text(rt: HostRuntime) -> Result<(), Fail> {
+    let cases = [
+        (BaseFault::BadGuidText, "the text is no GUID"),
+        (
+            BaseFault::BadTime,
+            "the text is no moment of the form YYYY-MM-DDThh:mm:ss",
+        ),
+    ];
+    for (fault, text) in cases {
+        let printed = format!(in rt.alloc(); "{fault}")?;
+        assert_eq!(rt; printed.as_str(), text);
+    }
+    Ok(())
+}
+
+#[test]
+fn want_of_memory_and_a_failed_call_have_a_text(rt: HostRuntime) -> Result<(), Fail> {
+    let memory = format!(in rt.alloc(); "{NoMemory}")?;
+    assert_eq!(rt; memory.as_str(), "out of memory");
+    let failed = format!(in rt.alloc(); "{Failed}")?;
+    assert_eq!(rt; failed.as_str(), "a call of the outside failed");
     Ok(())
 }

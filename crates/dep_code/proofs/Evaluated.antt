@@ -1,8 +1,9 @@
 -- The values on the stack are those of the entries.
-use Rattle.std.proofs.Common.{◌≡◌, ℕ, ◌+◌, Bool, true, false, ◌&&◌, ◌||◌, List, [], ◌∷◌, ◌++◌, map, length, take, Option, Some, None, IsSome, refl, sym, ap, subst, ◌∙◌}
+use Rattle.std.proofs.Common.{◌≡◌, ℕ, ◌+◌, Bool, true, false, ◌&&◌, ◌||◌, List, [], ◌∷◌, ◌++◌, map, length, take, Option, Some, None, IsSome, Result, Ok, Err, IfOk, refl, sym, ap, subst, ◌∙◌}
 use Rattle.std.specs.List.{list_all}
 use Rattle.std.specs.Option.{option_map}
 use Rattle.std.proofs.lemmas.List.Folds.{list_all-append, list_all-map}
+use Rattle.cu_base.specs.declared.faults.NoMemory.{NoMemory}
 use Rattle.cu_base.specs.declared.guid.Guid.{Guid}
 use Rattle.dep_code.specs.declared.evaluation.Value.{Value}
 use Rattle.dep_code.specs.declared.evaluation.Value.TheVariants.{Number, Truth}
@@ -171,6 +172,14 @@ pub answered : (versions : List (Guid × ℕ)) (items : List (ℕ × Op)) (t : T
 answered versions items t answer e is v =
     let all : knows_all versions t ≡ true = sym (known_is versions items t is) ∙ e in
     record { tree = t; is_tree = is; value = rw all v }
+
+-- an answer that is the value of a tree of the operations
+pub answer_is : (versions : List (Guid × ℕ)) (items : List (ℕ × Op)) (result : Result Bool NoMemory)
+    → list_all (λ item. knows versions item.1) items ≡ true
+    → IfOk result (λ truth. (tree : Tree) × IsTreeOf tree (ops_of items) × (truth ≡ value versions tree))
+    → IfOk result (λ answer. IsAnswerOf (ops_of items) versions answer)
+answer_is versions items (Ok truth) e found = answered versions items found.0 truth e found.1 found.2
+answer_is versions items (Err none) e found = tt
 
 pub top_is : (stack below : List Value) (a b : Bool) → stack ≡ Truth a ∷ [] → stack ≡ Truth b ∷ below → b ≡ a
 top_is stack below a b one top = cc

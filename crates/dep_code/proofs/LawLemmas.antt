@@ -1,5 +1,5 @@
 -- Sections and refusals, against each other.
-use Rattle.std.proofs.Common.{◌≡◌, ℕ, ◌+◌, ◌≤◌, inl, inr, true, not, List, [], ◌∷◌, ◌++◌, length, take, drop, Option, Some, None, IsSome, Err, refl, sym, ap, ◌∙◌, arith, append_assoc, zero-add}
+use Rattle.std.proofs.Common.{◌≡◌, ℕ, ◌+◌, ◌≤◌, inl, inr, true, not, List, [], ◌∷◌, ◌++◌, length, take, drop, Option, Some, None, IsSome, Result, Ok, Err, IfOk, IfErr, refl, sym, ap, ◌∙◌, arith, append_assoc, zero-add}
 use Rattle.std.specs.Option.{option_and_then, option_map, is_some}
 use Rattle.std.proofs.lemmas.List.{length-take, take-append-drop}
 use Rattle.cu_base.specs.Refusals.{first_refusal}
@@ -146,3 +146,10 @@ pub not_refused : (bytes : List ℕ) (items : List (ℕ × Op)) (size : ℕ) (r 
 not_refused bytes items size (Dep fault) h e =
     never_both_lemma (take size bytes) (drop size bytes) (ops_of items) h.tree fault.at fault.why h.is_section (rw (take-append-drop size bytes) e)
 not_refused bytes items size Memory h e = tt
+
+-- the section that stands there is the one that is found
+pub found_only : (bytes : List ℕ) (result : Result (List (ℕ × Op) × ℕ) DepRefusal)
+    → IfOk result (λ x. StandsAtFront bytes x.0 x.1) → IfErr result (λ e. IsRefusalOf e bytes)
+    → (items : List (ℕ × Op)) (size : ℕ) → StandsAtFront bytes items size → IsFound items size result
+found_only bytes (Ok x) found refused items size h = found_one bytes x.0 items x.1 size found h
+found_only bytes (Err e) found refused items size h = not_refused bytes items size e h refused

@@ -21,10 +21,10 @@ pub enum Entry {
 pub fn tree_of(alloc: Global, ops: &Ops) -> Result<DepTree, NoMemory>
     ensures { IfOk result (λ tree. IsTreeOf (seen tree) (ops_of ops.now)) }
 {
-    let tree = build(alloc, ops.as_slice())?;
-    Ok(tree)
+    build(alloc, ops.as_slice())
 }
 
+/// The tree of operations that are a section.
 fn build(alloc: Global, ops: &[(u32, Op)]) -> Result<DepTree, NoMemory>
     requires { ArePlaced ops.now }
     ensures { IfOk result (λ tree. IsTreeOf (seen tree) (ops_of ops.now)) }
@@ -66,6 +66,7 @@ fn apply(alloc: Global, stack: &mut Stack<Entry>, op: &Op) -> Result<(), NoMemor
     }
 }
 
+/// Negates the tree at the top.
 fn negate(alloc: Global, stack: &mut Stack<Entry>) -> Result<(), NoMemory>
     requires { IsSome (negated (entries_seen stack.old)) }
     ensures { OnOk result (negated (entries_seen stack.old) ≡ Some (entries_seen stack.new)) }
@@ -74,6 +75,7 @@ fn negate(alloc: Global, stack: &mut Stack<Entry>) -> Result<(), NoMemory>
     stack.push(Entry::Subtree(DepTree::Not(tree)))
 }
 
+/// Compares the two operands at the top, of which the upper is the left one.
 fn compare(stack: &mut Stack<Entry>, kind: CompareKind) -> Result<(), NoMemory>
     requires { IsSome (compared_by kind (entries_seen stack.old)) }
     ensures { OnOk result (compared_by kind (entries_seen stack.old) ≡ Some (entries_seen stack.new)) }
@@ -105,6 +107,7 @@ fn pop_operand(stack: &mut Stack<Entry>) -> Compared
     }
 }
 
+/// The tree in a box of its own.
 fn boxed(alloc: Global, tree: DepTree) -> Result<Box<DepTree>, NoMemory>
     ensures { IfOk result (λ b. b.value ≡ tree) }
 {

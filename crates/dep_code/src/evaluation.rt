@@ -25,10 +25,10 @@ pub enum Value {
 pub fn eval(alloc: Global, ops: &Ops, versions: &Versions) -> Result<bool, NoMemory>
     ensures { IfOk result (λ answer. IsAnswerOf (ops_of ops.now) versions.now.items answer) }
 {
-    let answer = answer_of(alloc, ops.as_slice(), versions.as_slice())?;
-    Ok(answer)
+    answer_of(alloc, ops.as_slice(), versions.as_slice())
 }
 
+/// The answer for operations that are a section.
 fn answer_of(alloc: Global, ops: &[(u32, Op)], versions: &[(Guid, u32)]) -> Result<bool, NoMemory>
     requires { ArePlaced ops.now }
     ensures { IfOk result (λ answer. IsAnswerOf (ops_of ops.now) versions.now answer) }
@@ -36,8 +36,7 @@ fn answer_of(alloc: Global, ops: &[(u32, Op)], versions: &[(Guid, u32)]) -> Resu
     if !knows_all(ops, versions) {
         return Ok(false);
     }
-    let truth = compute(alloc, ops, versions)?;
-    Ok(truth)
+    compute(alloc, ops, versions)
 }
 
 /// Whether every GUID that the operations name is in the list.
@@ -47,6 +46,7 @@ fn knows_all(ops: &[(u32, Op)], versions: &[(Guid, u32)]) -> bool
     ops.iter().all(|item| knows(versions, &item.1))
 }
 
+/// Whether the GUID that an operation names, if it names one, is in the list.
 fn knows(versions: &[(Guid, u32)], op: &Op) -> bool
     ensures { result ≡ knows versions.now op.now }
 {
@@ -69,7 +69,8 @@ fn version_of(versions: &[(Guid, u32)], guid: &Guid) -> Option<u32>
 /// The value of the section, whose GUIDs are in the list.
 fn compute(alloc: Global, ops: &[(u32, Op)], versions: &[(Guid, u32)]) -> Result<bool, NoMemory>
     requires { ArePlaced ops.now }
-    ensures { IfOk result (λ truth. (tree : Tree) × IsTreeOf tree (ops_of ops.now) × (truth ≡ value versions.now tree)) }
+    ensures { IfOk result (λ truth. (tree : Tree) ×
+        IsTreeOf tree (ops_of ops.now) × (truth ≡ value versions.now tree)) }
 {
     let mut stack = Stack::new(alloc);
     for item in ops {
@@ -114,6 +115,7 @@ fn apply(stack: &mut Stack<Value>, versions: &[(Guid, u32)], op: &Op) -> Result<
     }
 }
 
+/// Compares the two numbers at the top, of which the upper is the left one.
 fn compare(stack: &mut Stack<Value>, kind: CompareKind) -> Result<(), NoMemory>
     requires { IsSome (compared_values kind stack.old) }
     ensures { OnOk result (compared_values kind stack.old ≡ Some stack.new) }

@@ -13,18 +13,20 @@ use crate::typing::check_types;
 use crate::{DepRefusal, DepWhy, Op, Ops};
 use std::alloc::Global;
 
-/// The section at the front of the bytes, and its length. The bytes behind it are not looked at.
+/// The section at the front of the bytes, and its length (UEFI 2.10, 23.2). The bytes behind it are not
+/// looked at. Dep tells the first wrong place, Memory that no room was left.
 pub fn read_ops(alloc: Global, bytes: &[u8]) -> Result<(Ops, usize), DepRefusal>
-    ensures section { IfOk result (λ x. StandsAtFront bytes.now x.0 x.1) }
-    ensures only { (items : List (ℕ × Op)) (size : ℕ) → StandsAtFront bytes.now items size → IsFound items size result }
+    ensures ok { IfOk result (λ x. StandsAtFront bytes.now x.0 x.1) }
+    ensures only { (items : List (ℕ × Op)) (size : ℕ) →
+        StandsAtFront bytes.now items size → IsFound items size result }
     ensures refused { IfErr result (λ e. IsRefusalOf e bytes.now) }
 {
-    let found = read_section(alloc, bytes)?;
-    Ok(found)
+    read_section(alloc, bytes)
 }
 
+/// The same, of which `only` follows.
 fn read_section(alloc: Global, bytes: &[u8]) -> Result<(Ops, usize), DepRefusal>
-    ensures section { IfOk result (λ x. StandsAtFront bytes.now x.0 x.1) }
+    ensures ok { IfOk result (λ x. StandsAtFront bytes.now x.0 x.1) }
     ensures refused { IfErr result (λ e. IsRefusalOf e bytes.now) }
 {
     let (list, size) = read_list(alloc, bytes)?;

@@ -1,15 +1,17 @@
 //! The operations at the front of bytes, one by one, up to END.
 
 ghost use Rattle.std.specs.Prelude.{◌≡◌, ◌==◌, ℕ, ◌+◌, ◌≤◌, ◌<◌, [], ◌∷◌, IfOk, IfErr, length, take, true};
-ghost use Rattle.cu_base.specs.Fields.{field, number_at};
 ghost use Rattle.cu_base.specs.Refusals.{first_refusal};
 ghost use Rattle.dep_code.specs.Operations.{HasForm, is_end, op_bytes};
 ghost use Rattle.dep_code.specs.Reading.{EndsAt};
 ghost use Rattle.dep_code.specs.Refusals.{Answers, IsRefusalOf, first_byte, op_size, place_rows, text_size};
 
 use crate::{DepRefusal, DepWhy, MAX_SECTION_BYTES, Op};
-use cu_base::{Blob, Guid, Items, NoMemory, read_u32};
+use cu_base::{Blob, Items, NoMemory, guid_at, u32_at};
 use std::alloc::Global;
+
+/// The place of the operand, behind the byte of its operation.
+const OPERAND_AT: usize = 1;
 
 /// The operations up to END, with their places, and the length of their bytes.
 pub fn read_list(alloc: Global, bytes: &[u8]) -> Result<(Items<(u32, Op)>, usize), DepRefusal>
@@ -31,6 +33,7 @@ pub fn read_list(alloc: Global, bytes: &[u8]) -> Result<(Items<(u32, Op)>, usize
     }
 }
 
+/// Whether the operation is END.
 fn is_end(op: &Op) -> bool
     ensures { result ≡ is_end op.now }
 {
@@ -96,33 +99,11 @@ fn read_op(alloc: Global, rest: &[u8], size: usize) -> Result<Op, NoMemory>
     ensures form { IfOk result (λ op. HasForm op) }
 {
     match rest[0] {
-        0x00 => Ok(Op::PushGuid(guid_operand(rest))),
-        0x01 => Ok(Op::PushVersion(number_operand(rest))),
-        0x02 => Ok(Op::VersionStr(Blob::from_slice(alloc, &rest[1..size - 1])?)),
-        0x0E => Ok(Op::DeclareLength(number_operand(rest))),
+        0x00 => Ok(Op::PushGuid(guid_at(rest, OPERAND_AT))),
+        0x01 => Ok(Op::PushVersion(u32_at(rest, OPERAND_AT))),
+        0x02 => Ok(Op::VersionStr(Blob::from_slice(alloc, &rest[OPERAND_AT..size - 1])?)),
+        0x0E => Ok(Op::DeclareLength(u32_at(rest, OPERAND_AT))),
         code => Ok(plain_op(code)),
-    }
-}
-
-/// The GUID behind the byte of an operation.
-fn guid_operand(rest: &[u8]) -> Guid
-    requires { 17 ≤ length rest.now }
-    ensures { result.bytes ≡ field rest.now 1 16 }
-{
-    match Guid::read(&rest[1..]) {
-        Some(guid) => guid,
-        None => unreachable!(),
-    }
-}
-
-/// The number behind the byte of an operation.
-fn number_operand(rest: &[u8]) -> u32
-    requires { 5 ≤ length rest.now }
-    ensures { result ≡ number_at rest.now 1 4 }
-{
-    match read_u32(&rest[1..]) {
-        Some(number) => number,
-        None => unreachable!(),
     }
 }
 

@@ -225,3 +225,50 @@ fn the_deepest_tree_is_built_and_computed(rt: HostRuntime) -> Result<(), Fail> {
     assert!(rt; matches!(tree, DepTree::Not(_)));
     Ok(())
 }
+
+#[test]
+fn causes_have_a_text(rt: HostRuntime) -> Result<(), Fail> {
+    let cases = [
+        (DepWhy::NoEnd, "the bytes end before the operation END"),
+        (DepWhy::BadOpcode, "there is no operation of this byte"),
+        (DepWhy::CutOperand, "the bytes end before the operand does"),
+        (
+            DepWhy::LateDeclare,
+            "DECLARE_LENGTH stands behind another operation",
+        ),
+        (
+            DepWhy::WrongDeclare,
+            "the declared length is not that of the section",
+        ),
+        (
+            DepWhy::BadTypes,
+            "an operand of the operation is missing or of the other type",
+        ),
+        (
+            DepWhy::NotOneBool,
+            "the section does not leave exactly one truth value",
+        ),
+        (DepWhy::TooLong, "the section is longer than 4096 bytes"),
+    ];
+    for (why, text) in cases {
+        let printed = format!(in rt.alloc(); "{why}")?;
+        assert_eq!(rt; printed.as_str(), text);
+    }
+    Ok(())
+}
+
+#[test]
+fn refusals_have_a_text(rt: HostRuntime) -> Result<(), Fail> {
+    let refusal = DepRefusal::Dep(DepFault {
+        at: 6,
+        why: DepWhy::BadOpcode,
+    });
+    let printed = format!(in rt.alloc(); "{refusal}")?;
+    assert_eq!(rt;
+        printed.as_str(),
+        "refused at 6: there is no operation of this byte"
+    );
+    let memory = format!(in rt.alloc(); "{}", DepRefusal::Memory)?;
+    assert_eq!(rt; memory.as_str(), "out of memory");
+    Ok(())
+}

@@ -13,10 +13,10 @@ use std::alloc::Global;
 pub fn write_ops(alloc: Global, ops: &Ops) -> Result<Blob, NoMemory>
     ensures { IfOk result (λ bytes. (tree : Tree) × IsSection bytes (ops_of ops.now) tree) }
 {
-    let bytes = write_all(alloc, ops.as_slice())?;
-    Ok(bytes)
+    write_all(alloc, ops.as_slice())
 }
 
+/// The bytes of operations, one behind another.
 fn write_all(alloc: Global, ops: &[(u32, Op)]) -> Result<Blob, NoMemory>
     ensures { IfOk result (λ bytes. bytes ≡ section_bytes (ops_of ops.now)) }
 {

@@ -8,6 +8,12 @@ use Rattle.fmp_headers.specs.declared.fmp.FmpHeader.{FmpHeader}
 use Rattle.fmp_headers.specs.declared.faults.HeaderFault.{HeaderFault}
 use Rattle.fmp_headers.specs.declared.faults.HeaderFault.TheVariants.{Short, BadFmpVersion}
 
+-- the GUID 6dcbd5ed-e82d-4c44-bda1-7194199ad92a as its bytes stand in a capsule
+abbrev pub fmp_guid_bytes : List ℕ
+fmp_guid_bytes =
+    0xED ∷ 0xD5 ∷ 0xCB ∷ 0x6D ∷ 0x2D ∷ 0xE8 ∷ 0x44 ∷ 0x4C
+    ∷ 0xBD ∷ 0xA1 ∷ 0x71 ∷ 0x94 ∷ 0x19 ∷ 0x9A ∷ 0xD9 ∷ 0x2A ∷ []
+
 -- when an FMP header is refused: below 8 bytes, then where Version is not 1
 abbrev pub fmp_header_rows : List ℕ → List (Row HeaderFault)
 fmp_header_rows bytes =

@@ -18,4 +18,4 @@ pub use guids::FMP_CAPSULE_GUID;
 pub use image::{
     IMAGE_HEADER_BYTES, IMAGE_SIZE_AT, ImageHeader, image_header_size, is_image_version,
 };
-pub use laws::{capsule_header_law, fmp_header_law, image_header_law};
+pub use laws::{capsule_header_law, fixed_bytes_are, fmp_header_law, image_header_law};

@@ -102,3 +102,31 @@ fn image_headers_of_each_version(rt: HostRuntime) {
     refused(&rt, &of_version(0), HeaderFault::BadImageVersion);
     refused(&rt, &of_version(4), HeaderFault::BadImageVersion);
 }
+
+#[test]
+fn faults_of_headers_have_a_text(rt: HostRuntime) -> Result<(), Fail> {
+    let cases = [
+        (HeaderFault::Short, "the bytes end before the header does"),
+        (
+            HeaderFault::BadHeaderSize,
+            "HeaderSize is below 28 or above CapsuleImageSize",
+        ),
+        (
+            HeaderFault::BadImageSize,
+            "CapsuleImageSize is above the limit of 67108864 bytes",
+        ),
+        (
+            HeaderFault::BadFmpVersion,
+            "the version of the FMP capsule header is not 1",
+        ),
+        (
+            HeaderFault::BadImageVersion,
+            "the version of the image header is not 1, 2 or 3",
+        ),
+    ];
+    for (fault, text) in cases {
+        let printed = format!(in rt.alloc(); "{fault}")?;
+        assert_eq!(rt; printed.as_str(), text);
+    }
+    Ok(())
+}

@@ -14,6 +14,21 @@ use cu_base::{guid_at, u16_at, u32_at, u64_at};
 /// The bytes up to CertData: MonotonicCount and the fields of WIN_CERTIFICATE_UEFI_GUID.
 const AUTHENTICATION_BYTES: usize = 32;
 
+/// The place of MonotonicCount.
+const MONOTONIC_COUNT_AT: usize = 0;
+
+/// The place of dwLength.
+const LENGTH_AT: usize = 8;
+
+/// The place of wRevision.
+const REVISION_AT: usize = 12;
+
+/// The place of wCertificateType.
+const CERTIFICATE_TYPE_AT: usize = 14;
+
+/// The place of CertType.
+const CERT_TYPE_AT: usize = 16;
+
 /// The bytes before dwLength, which it does not count.
 const BEFORE_LENGTH: usize = 8;
 
@@ -33,10 +48,8 @@ pub fn read_auth(image: &[u8], support: u64) -> Result<(Option<AuthParts<'_>>, u
     if !has_authentication(support) {
         return Ok((None, 0));
     }
-    match check_authentication(image) {
-        Ok(end) => Ok((Some(authentication_at(image, end)), end)),
-        Err(fault) => Err(fault),
-    }
+    let end = check_authentication(image)?;
+    Ok((Some(authentication_at(image, end)), end))
 }
 
 /// Where the authentication data ends, or what is wrong with it.
@@ -49,14 +62,12 @@ fn check_authentication(image: &[u8]) -> Result<usize, PartFault>
     if image.len() < AUTHENTICATION_BYTES {
         return Err(PartFault::new(0, PartWhy::ShortAuth));
     }
-    let end = BEFORE_LENGTH + u32_at(image, 8) as usize;
+    let end = BEFORE_LENGTH + u32_at(image, LENGTH_AT) as usize;
     if end < AUTHENTICATION_BYTES || image.len() < end {
-        return Err(PartFault::new(8, PartWhy::BadAuthLength));
+        return Err(PartFault::new(LENGTH_AT as u32, PartWhy::BadAuthLength));
     }
-    match check_certificate(image) {
-        Ok(()) => Ok(end),
-        Err(fault) => Err(fault),
-    }
+    check_certificate(image)?;
+    Ok(end)
 }
 
 /// Whether wRevision and wCertificateType are those of WIN_CERTIFICATE_UEFI_GUID.
@@ -64,11 +75,11 @@ fn check_certificate(image: &[u8]) -> Result<(), PartFault>
     requires { AUTHENTICATION_BYTES ≤ length image.now }
     ensures { Answers result (first_refusal (certificate_rows image.now)) }
 {
-    if u16_at(image, 12) != REVISION {
-        return Err(PartFault::new(12, PartWhy::BadRevision));
+    if u16_at(image, REVISION_AT) != REVISION {
+        return Err(PartFault::new(REVISION_AT as u32, PartWhy::BadRevision));
     }
-    if u16_at(image, 14) != CERTIFICATE_TYPE {
-        return Err(PartFault::new(14, PartWhy::BadCertType));
+    if u16_at(image, CERTIFICATE_TYPE_AT) != CERTIFICATE_TYPE {
+        return Err(PartFault::new(CERTIFICATE_TYPE_AT as u32, PartWhy::BadCertType));
     }
     Ok(())
 }
@@ -81,8 +92,8 @@ fn authentication_at(image: &[u8], end: usize) -> AuthParts<'_>
     ensures { auth_seen result ≡ authentication_at image.now }
 {
     AuthParts {
-        monotonic: u64_at(image, 0),
-        cert_type: guid_at(image, 16),
+        monotonic: u64_at(image, MONOTONIC_COUNT_AT),
+        cert_type: guid_at(image, CERT_TYPE_AT),
         cert: &image[AUTHENTICATION_BYTES..end],
     }
 }

@@ -49,3 +49,14 @@ pub enum PartRefusal {
     #[error("out of memory")]
     Memory,
 }
+
+impl From<PartFault> for PartRefusal {
+    ghost use Rattle.std.specs.Prelude.{◌≡◌};
+    ghost use Rattle.image_parts.specs.declared.fault.PartRefusal.TheVariants.{Part};
+
+    ghost from_gives = { λ f e. e ≡ Part f };
+
+    fn from(fault: PartFault) -> PartRefusal {
+        PartRefusal::Part(fault)
+    }
+}

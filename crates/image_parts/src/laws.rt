@@ -1,36 +1,52 @@
-//! The laws of update images: an image has its parts in one way, or is refused at one place for one cause, and never
-//! both. Its parts as they are written one behind another are its parts at their places.
+//! The laws of update images: an image has its parts in one way, or is refused at one place for one
+//! cause, and never both. Its parts as they are written one behind another are its parts at their places.
 
-ghost use Rattle.std.specs.Prelude.{◌≡◌, ◌<◌, ◌⊎◌, ℕ, List};
+ghost use Rattle.std.specs.Prelude.{◌≡◌, ◌<◌, ◌⊎◌, ℕ, List, [], ◌∷◌};
 ghost use Rattle.cu_base.specs.Bytes.{IsBytes};
+ghost use Rattle.image_parts.specs.declared.authentication.TheConstants.{CERTIFICATE_TYPE, REVISION};
+ghost use Rattle.image_parts.specs.declared.payload_header.TheConstants.{SIGNATURE};
 ghost use Rattle.image_parts.specs.declared.fault.PartWhy.{PartWhy};
 ghost use Rattle.image_parts.specs.Cuts.{IsCutInto};
 ghost use Rattle.image_parts.specs.Parts.{IsPartsOf};
 ghost use Rattle.image_parts.specs.Refusals.{IsRefused};
 ghost use Rattle.image_parts.specs.Values.{PartsValue};
 
+/// The fixed numbers of WIN_CERTIFICATE_UEFI_GUID, and the signature `MSS1` of a payload header.
+pub fn fixed_bytes_are()
+    ensures { (REVISION ≡ 0x0200) × (CERTIFICATE_TYPE ≡ 0x0EF1)
+        × (SIGNATURE ≡ 0x4D ∷ 0x53 ∷ 0x53 ∷ 0x31 ∷ []) }
+{}
+
 /// Parts are those of an image exactly where they stand at their places and nothing is refused.
 pub fn parts_stand_at_their_places()
-    ensures cut { (image : List ℕ) (support : ℕ) (p : PartsValue) → IsPartsOf image support p → IsCutInto image support p }
-    ensures spelled { (image : List ℕ) (support : ℕ) (p : PartsValue) → IsBytes image → IsCutInto image support p → IsPartsOf image support p }
+    ensures cut { (image : List ℕ) (support : ℕ) (p : PartsValue) →
+        IsPartsOf image support p → IsCutInto image support p }
+    ensures spelled { (image : List ℕ) (support : ℕ) (p : PartsValue) → IsBytes image →
+        IsCutInto image support p → IsPartsOf image support p }
 {}
 
 /// An image has one list of parts.
 pub fn one_list_of_parts()
-    ensures { (image : List ℕ) (support : ℕ) (p q : PartsValue) → IsPartsOf image support p → IsPartsOf image support q → p ≡ q }
+    ensures { (image : List ℕ) (support : ℕ) (p q : PartsValue) →
+        IsPartsOf image support p → IsPartsOf image support q → p ≡ q }
 {}
 
 /// An image has its parts or is refused.
 pub fn parts_or_refused()
-    ensures { (image : List ℕ) (support : ℕ) → IsBytes image → ((p : PartsValue) × IsPartsOf image support p) ⊎ ((at : ℕ) × (why : PartWhy) × IsRefused image support at why) }
+    ensures { (image : List ℕ) (support : ℕ) → IsBytes image →
+        ((p : PartsValue) × IsPartsOf image support p)
+        ⊎ ((at : ℕ) × (why : PartWhy) × IsRefused image support at why) }
 {}
 
 /// An image that has its parts is not refused.
 pub fn never_both()
-    ensures { (image : List ℕ) (support : ℕ) (p : PartsValue) (at : ℕ) (why : PartWhy) → IsPartsOf image support p → IsRefused image support at why → ⊥ }
+    ensures { (image : List ℕ) (support : ℕ) (p : PartsValue) (at : ℕ) (why : PartWhy) →
+        IsPartsOf image support p → IsRefused image support at why → ⊥ }
 {}
 
 /// An image is refused at one place for one cause.
 pub fn one_refusal()
-    ensures { (image : List ℕ) (support at other : ℕ) (why cause : PartWhy) → IsRefused image support at why → IsRefused image support other cause → (at ≡ other) × (why ≡ cause) }
+    ensures { (image : List ℕ) (support at other : ℕ) (why cause : PartWhy) →
+        IsRefused image support at why → IsRefused image support other cause →
+        (at ≡ other) × (why ≡ cause) }
 {}

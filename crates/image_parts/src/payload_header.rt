@@ -11,8 +11,17 @@ use cu_base::u32_at;
 /// The bytes of the fields: signature, HeaderSize, FwVersion and LowestSupportedVersion.
 pub const FIELD_BYTES: usize = 16;
 
+/// The place of HeaderSize.
+const HEADER_SIZE_AT: usize = 4;
+
+/// The place of FwVersion.
+const VERSION_AT: usize = 8;
+
+/// The place of LowestSupportedVersion.
+const LOWEST_AT: usize = 12;
+
 /// The signature.
-const SIGNATURE: [u8; 4] = *b"MSS1";
+pub const SIGNATURE: [u8; 4] = *b"MSS1";
 
 /// The payload header at the front of bytes, which begin at place `start` of the image.
 pub fn read_head(rest: &[u8], start: usize) -> Result<PayloadHead, PartFault>
@@ -26,16 +35,16 @@ pub fn read_head(rest: &[u8], start: usize) -> Result<PayloadHead, PartFault>
     if rest.len() < FIELD_BYTES {
         return Err(PartFault::new(at, PartWhy::ShortPayloadHeader));
     }
-    if &rest[..4] != SIGNATURE.as_slice() {
+    if &rest[..SIGNATURE.len()] != SIGNATURE.as_slice() {
         return Err(PartFault::new(at, PartWhy::BadSignature));
     }
-    let header_size = u32_at(rest, 4);
+    let header_size = u32_at(rest, HEADER_SIZE_AT);
     if (header_size as usize) < FIELD_BYTES || rest.len() < header_size as usize {
-        return Err(PartFault::new(at + 4, PartWhy::BadPayloadHeaderSize));
+        return Err(PartFault::new(at + HEADER_SIZE_AT as u32, PartWhy::BadPayloadHeaderSize));
     }
     Ok(PayloadHead {
         header_size,
-        version: u32_at(rest, 8),
-        lowest: u32_at(rest, 12),
+        version: u32_at(rest, VERSION_AT),
+        lowest: u32_at(rest, LOWEST_AT),
     })
 }

@@ -14,11 +14,11 @@ use crate::section::{section_at, section_size};
 use crate::{PartRefusal, Parts};
 use std::alloc::Global;
 
-/// The parts of the image of this support, which are slices of it. Want of memory comes only where a section is due.
+/// The parts of the image of this support, which are slices of it (UEFI 2.10, 23.1 and 23.2; EDK II,
+/// FmpPayloadHeaderLibV1). Part tells the first wrong place, Memory comes only where a section is due.
 pub fn split<'a>(alloc: Global, image: &'a [u8], support: u64) -> Result<Parts<'a>, PartRefusal>
     requires { length image.now < 2 ^ 32 }
-    ensures parts { IfOk result (λ p. IsPartsOf image.now support (parts_seen p)) }
-    ensures places { IfOk result (λ p. IsCutInto image.now support (parts_seen p)) }
+    ensures ok { IfOk result (λ p. IsPartsOf image.now support (parts_seen p)) }
     ensures only { (p : PartsValue) → IsPartsOf image.now support p → IsFound p result }
     ensures refused { IfErr result (λ e. IsRefusalOf e image.now support) }
     ensures memory { IsErrOf result Memory → IsTrue (has_section support) }
@@ -29,23 +29,14 @@ pub fn split<'a>(alloc: Global, image: &'a [u8], support: u64) -> Result<Parts<'
 /// The parts at their places.
 fn cut<'a>(alloc: Global, image: &'a [u8], support: u64) -> Result<Parts<'a>, PartRefusal>
     requires { length image.now < 2 ^ 32 }
-    ensures places { IfOk result (λ p. IsCutInto image.now support (parts_seen p)) }
+    ensures ok { IfOk result (λ p. IsCutInto image.now support (parts_seen p)) }
     ensures refused { IfErr result (λ e. IsRefusalOf e image.now support) }
     ensures memory { IsErrOf result Memory → IsTrue (has_section support) }
 {
-    let (auth, end) = match read_auth(image, support) {
-        Ok(read) => read,
-        Err(fault) => return Err(PartRefusal::Part(fault)),
-    };
-    let size = match section_size(alloc, &image[end..], end, support) {
-        Ok(size) => size,
-        Err(refusal) => return Err(refusal),
-    };
+    let (auth, end) = read_auth(image, support)?;
+    let size = section_size(alloc, &image[end..], end, support)?;
     let rest = &image[end + size..];
-    let head = match read_head(rest, end + size) {
-        Ok(head) => head,
-        Err(fault) => return Err(PartRefusal::Part(fault)),
-    };
+    let head = read_head(rest, end + size)?;
     Ok(Parts {
         auth,
         dep: section_at(image, end, size, support),

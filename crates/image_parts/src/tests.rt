@@ -263,3 +263,62 @@ fn the_digest_of_the_whole_image_admits_it(rt: HostRuntime) {
     assert!(rt; is_admitted(&[DIGEST_OF_PAYLOAD], &PLAIN[16..]));
     assert!(rt; !is_admitted(&[], &PLAIN));
 }
+
+#[test]
+fn causes_have_a_text(rt: HostRuntime) -> Result<(), Fail> {
+    let cases = [
+        (
+            PartWhy::ShortAuth,
+            "the image ends before the fields of its authentication data do",
+        ),
+        (
+            PartWhy::BadRevision,
+            "wRevision of the certificate is not 0x0200",
+        ),
+        (
+            PartWhy::BadCertType,
+            "wCertificateType of the certificate is not 0x0EF1",
+        ),
+        (
+            PartWhy::BadAuthLength,
+            "dwLength of the certificate is below 24 or passes the end of the image",
+        ),
+        (
+            PartWhy::Dep(DepWhy::NoEnd),
+            "dependency section: the bytes end before the operation END",
+        ),
+        (
+            PartWhy::ShortPayloadHeader,
+            "the image ends before the fields of its payload header do",
+        ),
+        (
+            PartWhy::BadSignature,
+            "the signature of the payload header is not MSS1",
+        ),
+        (
+            PartWhy::BadPayloadHeaderSize,
+            "HeaderSize of the payload header is below 16 or passes the end of the image",
+        ),
+    ];
+    for (why, text) in cases {
+        let printed = format!(in rt.alloc(); "{why}")?;
+        assert_eq!(rt; printed.as_str(), text);
+    }
+    Ok(())
+}
+
+#[test]
+fn refusals_have_a_text(rt: HostRuntime) -> Result<(), Fail> {
+    let refusal = PartRefusal::Part(PartFault {
+        at: 35,
+        why: PartWhy::BadSignature,
+    });
+    let printed = format!(in rt.alloc(); "{refusal}")?;
+    assert_eq!(rt;
+        printed.as_str(),
+        "refused at 35: the signature of the payload header is not MSS1"
+    );
+    let memory = format!(in rt.alloc(); "{}", PartRefusal::Memory)?;
+    assert_eq!(rt; memory.as_str(), "out of memory");
+    Ok(())
+}

@@ -47,6 +47,7 @@ returns c =
     let long = ap length same in
     let left = ap (λ (l : List ℕ). list_end l + length (concat (kept_items l))) same in
     let size : c.kept_size.result ≡ list_end body + length (concat (kept_items body)) =
-    c.kept_size.ensures.value ∙ left in
-    (λ t. fmp_rebuilt bytes is c.requires fmp (sym size ∙ eqb-true _ _ t ∙ long),
-    λ e. eq-eqb _ _ (size ∙ fmp_keeps_length bytes is c.requires fmp e ∙ sym long))
+    c.kept_size.ensures.value ∙ left in (
+      λ t. fmp_rebuilt bytes is c.requires fmp (sym size ∙ eqb-true _ _ t ∙ long),
+      λ e. eq-eqb _ _ (size ∙ fmp_keeps_length bytes is c.requires fmp e ∙ sym long),
+    )

@@ -1,5 +1,5 @@
 use Rattle.std.proofs.Common.{sym}
-use Rattle.dep_code.proofs.Evaluated.{unknown, answered}
+use Rattle.dep_code.proofs.Evaluated.{unknown, answer_is}
 use Rattle.dep_code.proofs.evaluation.answer_of.Goals as goal
 
 pub returns-then-not-knows_all : goal.returns-then-not-knows_all
@@ -7,5 +7,4 @@ returns-then-not-knows_all c = unknown c.args.versions.now c.args.ops.now c.requ
 
 pub returns : goal.returns
 returns c =
-    let found = c.in_ok-truth.ensures in
-    answered c.args.versions.now c.args.ops.now found.0 c.in_ok-truth.truth (sym c.if-not-knows_all.ensures) found.1 found.2
+    answer_is c.args.versions.now c.args.ops.now c.compute.result (sym c.if-not-knows_all.ensures) c.compute.ensures

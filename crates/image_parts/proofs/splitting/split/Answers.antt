@@ -3,10 +3,10 @@ use Rattle.cu_base.specs.Bytes.{IsBytes}
 use Rattle.image_parts.proofs.Found.{found_only, found_parts}
 use Rattle.image_parts.proofs.splitting.split.Goals as goal
 
-pub returns-clause-parts : goal.returns-clause-parts
-returns-clause-parts c =
+pub returns-clause-ok : goal.returns-clause-ok
+returns-clause-ok c =
     let is : IsBytes c.args.image.now = λ i. omega (arith, c.type_inv.image i) in
-    found_parts c.args.image.now c.args.support c.cut.result is c.cut.ensures.places
+    found_parts c.args.image.now c.args.support c.cut.result is c.cut.ensures.ok
 
 pub returns-clause-only : goal.returns-clause-only
-returns-clause-only c = found_only c.args.image.now c.args.support c.cut.result c.cut.ensures.places c.cut.ensures.refused
+returns-clause-only c = found_only c.args.image.now c.args.support c.cut.result c.cut.ensures.ok c.cut.ensures.refused
