@@ -18,7 +18,7 @@ pub use reference_machine::{
 };
 pub use script::{
     MAX_COUNT, MAX_EVENTS, MAX_FILE_NAME, MAX_INPUT_NAME, MAX_POKE_BYTES, ScriptFault, ScriptKind,
-    read_script, script_inputs, scripts_read_back,
+    read_script, script_inputs, scripts_read_back, the_limits_of_scripts_are_these,
 };
 pub use text::trace_text;
 pub use thin_play::{is_thin_on, play};
