@@ -262,6 +262,30 @@ fn drop_line(alloc: Global, file: usize, input: usize) -> Result<String, AllocEr
 }
 
 #[test]
+fn faults_are_told_in_words(rt: HostRuntime) -> Result<(), Fail> {
+    let cases = [
+        (
+            "caf\u{e9}",
+            "line 1: a byte that is no printable ASCII character",
+        ),
+        ("\nbot", "line 2: the first word is no event"),
+        (
+            "fail 0",
+            "line 1: the operands are too many, too few or out of form",
+        ),
+    ];
+    for (text, wanted) in cases {
+        match read(&rt, rt.alloc(), text) {
+            Ok(_) => panic!(&rt; "{text}"),
+            Err(fault) => {
+                assert_eq!(rt; format!(in rt.alloc(); "{fault}")?.as_str(), wanted);
+            }
+        }
+    }
+    Ok(())
+}
+
+#[test]
 fn names_have_at_most_40_and_64_bytes(rt: HostRuntime) -> Result<(), Fail> {
     let line = drop_line(rt.alloc(), 40, 64)?;
     let script = read(&rt, rt.alloc(), line.as_str())?;
