@@ -1,3 +1,9 @@
+pub mod Bench
 pub mod Boards
 pub mod Devices
+pub mod Factory
+pub mod Files
+pub mod Memory
 pub mod Names
+pub mod Plans
+pub mod Regions

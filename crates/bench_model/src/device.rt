@@ -25,11 +25,13 @@ pub struct Device {
 }
 
 impl Model for Device {
-    ghost use Rattle.bench_model.specs.Devices.{DeviceValue, IsDevice};
+    ghost use Rattle.bench_model.specs.Devices.{DeviceValue, IsDevice, device};
 
     ghost Value = { DeviceValue };
 
-    ghost view = { λ d. record { name = d.name; type_id = d.type_id; index = d.index; instance = d.instance; fw_type = d.fw_type; capacity = d.capacity; version = d.version; floor = d.floor; flags = d.flags } };
+    ghost view = { λ d. device d.name d.type_id d.index d.instance
+        d.fw_type d.capacity d.version d.floor d.flags };
 
-    ghost invariant = { λ d. IsDevice (record { name = d.name; type_id = d.type_id; index = d.index; instance = d.instance; fw_type = d.fw_type; capacity = d.capacity; version = d.version; floor = d.floor; flags = d.flags }) };
+    ghost invariant = { λ d. IsDevice (device d.name d.type_id d.index d.instance
+        d.fw_type d.capacity d.version d.floor d.flags) };
 }

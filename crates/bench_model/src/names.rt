@@ -12,7 +12,7 @@ pub fn is_device_name(name: &str) -> bool
     !bytes.is_empty() && bytes.len() <= MAX_DEVICE_NAME && are_name_bytes(bytes)
 }
 
-fn are_name_bytes(bytes: &[u8]) -> bool
+pub(crate) fn are_name_bytes(bytes: &[u8]) -> bool
     ensures { result ≡ list_all is_name_byte bytes.now }
 {
     bytes.iter().all(|b| is_name_byte(*b))

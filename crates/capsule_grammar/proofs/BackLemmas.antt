@@ -1,7 +1,6 @@
 -- Capsules that are read one after the other.
 use Rattle.std.proofs.Common.{◌≡◌, ℕ, ◌+◌, ◌-◌, ◌^◌, ◌<◌, ◌≤◌, List, [], ◌∷◌, ◌++◌, length, take, drop, Some, refl, sym, ap, subst, ◌∙◌, inl, inr, arith}
 use Rattle.std.specs.List.{flat_map, AllByRecursion}
-use Rattle.std.proofs.lemmas.Bool.{leb-true}
 use Rattle.std.proofs.lemmas.List.{flat_map_more, take_all, take_rest, take-append-drop, length-take, length-drop}
 use Rattle.cu_base.specs.declared.limits.TheConstants.{MAX_CAPSULE_BYTES}
 use Rattle.cu_base.specs.Bytes.{IsBytes}
@@ -18,6 +17,7 @@ use Rattle.capsule_grammar.specs.Refusals.{refusal}
 use Rattle.capsule_grammar.specs.Spelling.{spelling}
 use Rattle.capsule_grammar.proofs.Lists.{append_both}
 use Rattle.capsule_grammar.proofs.Places.{place_below}
+use Rattle.capsule_grammar.proofs.Spelled.{sized_length}
 
 -- these capsules stand before this place
 pub record Before (capsules : List Capsule) (at : ℕ) (bytes : List ℕ) : Type 0 where
@@ -44,7 +44,7 @@ pub before_push : (cs new : List Capsule) (c : Capsule) (at size : ℕ) (bytes :
 before_push cs new c at size bytes b is size_is here e = rw e (before_grown cs c at size bytes b is size_is (ap (take size) (sym (take_rest bytes at)) ∙ here))
 
 pub size_limit : (c : Capsule) → IsCapsule c → length (spelling c) ≤ MAX_CAPSULE_BYTES
-size_limit c is = leb-true _ _ is.sized
+size_limit = sized_length
 
 place_is : (cs : List Capsule) (at : ℕ) (bytes : List ℕ) → Before cs at bytes → length (flat_map spelling cs) ≡ at
 place_is cs at bytes b = omega (arith, ap length b.front, length-take at bytes, b.within)

@@ -24,6 +24,7 @@ use Rattle.capsule_grammar.specs.Spelling.{image_bytes, item_bytes, offsets, fmp
 use Rattle.capsule_grammar.specs.Fits.{is_nonempty, image_fits, fmp_fits, body_fits, HaveWidths, IsCapsule}
 use Rattle.capsule_grammar.specs.Reading.{image_of, fmp_of, body_read, capsule_of}
 use Rattle.capsule_grammar.proofs.Offsets.{all_are_bounds, bound_is, bound_ends}
+use Rattle.capsule_grammar.proofs.Spelled.{spelling_length}
 use Rattle.capsule_grammar.proofs.Lists.{field_split, between_split, map_range, map-range-append, map-map-range, all_of_range, all_range, regroup, append_both}
 
 -- ---- an image
@@ -279,6 +280,18 @@ widths_of_body bytes is e =
       | inr other ↦ rw other tt
     ]
 
+-- CapsuleImageSize of the capsule that is read is that of the header
+read_sized : (bytes : List ℕ) → IsBytes bytes → refusal bytes ≡ None
+    → 28 + length (capsule_of bytes).ext + length (body_bytes (capsule_of bytes).body) ≤ MAX_CAPSULE_BYTES
+read_sized bytes is e =
+    let front = front_of bytes e in
+    let c = capsule_of bytes in
+    let guid = length-field bytes 0 16 (omega (arith, front.long)) in
+    let size = ap length (read_is_spelled bytes is e) in
+    let parts : length (spelling c) ≡ 28 + length c.ext + length (body_bytes c.body) =
+    spelling_length c guid in
+    omega (arith, parts, size, length-take (image_size bytes) bytes, front.limit)
+
 pub read_is_capsule : (bytes : List ℕ) → IsBytes bytes → refusal bytes ≡ None → IsCapsule (capsule_of bytes)
 read_is_capsule bytes is e =
     let front = front_of bytes e in
@@ -287,7 +300,7 @@ read_is_capsule bytes is e =
       flags = number_at-below bytes 20 4 is (omega (arith, front.long));
       widths = widths_of_body bytes is e;
       fits = body_fits_read bytes is e;
-      sized = le-leb _ _ (let n : length (spelling (capsule_of bytes)) ≤ MAX_CAPSULE_BYTES = omega (arith, ap length (read_is_spelled bytes is e), length-take (image_size bytes) bytes, front.limit) in n);
+      sized = le-leb _ _ (read_sized bytes is e);
     }
 
 pub read_length : (bytes : List ℕ) → IsBytes bytes → refusal bytes ≡ None → length (spelling (capsule_of bytes)) ≡ image_size bytes

@@ -1,10 +1,13 @@
 -- Sizes of spellings, and what is written item by item.
-use Rattle.std.proofs.Common.{◌≡◌, ℕ, zero, suc, ◌+◌, ◌*◌, ◌-◌, ◌^◌, ◌<◌, ◌≤◌, min, List, [], ◌∷◌, ◌++◌, length, get_or, take, refl, sym, ap, ◌∙◌, arith, append_assoc, length-append}
+use Rattle.std.proofs.Common.{◌≡◌, ℕ, zero, suc, ◌+◌, ◌*◌, ◌-◌, ◌^◌, ◌<◌, ◌≤◌, min, Bool, true, false, List, [], ◌∷◌, ◌++◌, length, get_or, take, refl, sym, ap, ◌∙◌, arith, append_assoc, length-append}
 use Rattle.std.specs.List.{concat, flat_map}
 use Rattle.std.proofs.lemmas.List.{take_all, take_more, append-nil}
 use Rattle.std.proofs.lemmas.List.Folds.{concat-append}
 use Rattle.cu_base.specs.Fields.{bytes_of}
 use Rattle.fmp_headers.specs.FmpHeader.{fmp_header_bytes}
+use Rattle.capsule_grammar.specs.declared.value.Body.{Body}
+use Rattle.capsule_grammar.specs.declared.value.Body.TheVariants.{Other, Fmp}
+use Rattle.capsule_grammar.specs.Fits.{body_fits, parts_fit}
 use Rattle.capsule_grammar.specs.Values.{FmpValue}
 use Rattle.capsule_grammar.specs.Spelling.{item_bytes, offsets, fmp_bytes, first_place}
 use Rattle.capsule_grammar.proofs.Spelled.{place_next, place_within, length-offsets, length-list}
@@ -26,6 +29,13 @@ pub size_all : (v : FmpValue) (k size : ℕ) → length (item_bytes v) ≤ k →
 size_all v k size le e =
     let all : length (concat (take k (item_bytes v))) ≡ length (concat (item_bytes v)) = ap (λ (l : List (List ℕ)). length (concat l)) (take_all k (item_bytes v) le) in
     omega (arith, e, all, length-fmp_bytes v)
+
+-- the parts of a body fit where it fits beside its GUID
+pub parts_are_fit : (is_fmp : Bool) (b : Body) → body_fits is_fmp b ≡ true → parts_fit b ≡ true
+parts_are_fit true (Fmp b) e = e
+parts_are_fit true (Other blob) e = refl
+parts_are_fit false (Fmp b) e = absurd cc
+parts_are_fit false (Other blob) e = refl
 
 -- ---- item by item
 

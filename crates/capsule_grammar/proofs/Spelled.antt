@@ -394,12 +394,18 @@ parts_in_front whole h e b rest is lh = (
   ap length is ∙ simp length-append (omega arith),
 )
 
+-- a capsule that is sized has at most as many bytes as a capsule may have
+pub sized_length : (c : Capsule) → IsCapsule c → length (spelling c) ≤ MAX_CAPSULE_BYTES
+sized_length c is =
+    let size : 28 + length c.ext + length (body_bytes c.body) ≤ MAX_CAPSULE_BYTES = leb-true _ _ is.sized in
+    omega (arith, size, spelling_length c is.guid)
+
 pub reads_front : (c : Capsule) (rest : List ℕ) → IsCapsule c → ReadsFront (spelling c ++ rest) c
 reads_front c rest is =
     let h = header_of c in
     let whole = spelling c ++ rest in
     let total = spelling_length c is.guid in
-    let sized : length (spelling c) ≤ MAX_CAPSULE_BYTES = leb-true _ _ is.sized in
+    let sized : length (spelling c) ≤ MAX_CAPSULE_BYTES = sized_length c is in
     let again : capsule_header (capsule_header_bytes h ++ ((c.ext ++ body_bytes c.body) ++ rest)) ≡ Ok h =
     capsule_header_again h ((c.ext ++ body_bytes c.body) ++ rest) (record { guid = is.guid; flags = is.flags; header_size = omega arith; within = omega arith; image_size = omega (arith, total, sized) }) in
     let here : capsule_header whole ≡ Ok h = ap capsule_header (append_assoc (capsule_header_bytes h) (c.ext ++ body_bytes c.body) rest) ∙ again in
@@ -441,7 +447,7 @@ module _ (c : Capsule) (rest : List ℕ) (is : IsCapsule c) where
   of_body : (cond (is_fmp_guid (field (spelling c ++ rest) 0 16)) (Fmp (fmp_of (body_of (spelling c ++ rest)))) (Other (body_of (spelling c ++ rest))) ≡ c.body) × (first_refusal (cond (is_fmp_guid (field (spelling c ++ rest) 0 16)) (fmp_rows (body_of (spelling c ++ rest)) (header_size (spelling c ++ rest))) []) ≡ None)
   of_body =
       let front = reads_front c rest is in
-      let sized : length (spelling c) ≤ MAX_CAPSULE_BYTES = leb-true _ _ is.sized in
+      let sized : length (spelling c) ≤ MAX_CAPSULE_BYTES = sized_length c is in
       let fits_here : body_fits (is_fmp_guid (field (spelling c ++ rest) 0 16)) c.body ≡ true = ap (λ (l : List ℕ). body_fits (is_fmp_guid l) c.body) front.guid ∙ is.fits in
       body_again (is_fmp_guid (field (spelling c ++ rest) 0 16)) c.body (body_of (spelling c ++ rest)) (header_size (spelling c ++ rest)) fits_here is.widths front.body (omega (arith, sized, spelling_length c is.guid))
 

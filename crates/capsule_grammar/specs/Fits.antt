@@ -9,7 +9,7 @@ use Rattle.capsule_grammar.specs.declared.value.Body.TheVariants.{Other, Fmp}
 use Rattle.capsule_grammar.specs.declared.value.Capsule.{Capsule}
 use Rattle.capsule_grammar.specs.Values.{FmpValue}
 use Rattle.capsule_grammar.specs.Refusals.{is_fmp_guid}
-use Rattle.capsule_grammar.specs.Spelling.{spelling}
+use Rattle.capsule_grammar.specs.Spelling.{header_of, spelling}
 
 -- there is a byte
 abbrev pub is_nonempty : List ℕ → Bool
@@ -34,14 +34,19 @@ body_fits true (Other blob) = false
 body_fits false (Fmp b) = false
 body_fits false (Other blob) = true
 
+-- the parts of a body fit, whatever the GUID
+abbrev pub parts_fit : Body → Bool
+parts_fit (Other blob) = true
+parts_fit (Fmp b) = fmp_fits b
+
 -- the capsule fits: its body is that of an FMP capsule exactly where its GUID says so, with counts, sizes and headers
 -- that a spelling can tell
 abbrev pub fits : Capsule → Bool
 fits c = body_fits (is_fmp_guid c.guid.bytes) c.body
 
--- the bytes of the capsule are at most as many as a capsule may have
+-- CapsuleImageSize is at most the limit of a capsule
 abbrev pub is_sized : Capsule → Bool
-is_sized c = nat_le (length (spelling c)) MAX_CAPSULE_BYTES
+is_sized c = nat_le (header_of c).image_size MAX_CAPSULE_BYTES
 
 -- each field of each image header has its width
 abbrev pub HaveWidths : Body → Type 0

@@ -30,12 +30,15 @@ offsets here (item ∷ items) = here ∷ offsets (here + length item) items
 abbrev pub first_place : FmpValue → ℕ
 first_place b = 8 + 8 * length (item_bytes b) + length b.lead
 
+-- where each item begins, in 8 bytes each
+abbrev pub offset_list : FmpValue → List ℕ
+offset_list b = flat_map (bytes_of 8) (offsets (first_place b) (item_bytes b))
+
 -- FMP header, offset list, lead and items
 abbrev pub fmp_bytes : FmpValue → List ℕ
 fmp_bytes b =
     let header = fmp_header_bytes (record { drivers = length b.drivers; items = length b.images }) in
-    let list = flat_map (bytes_of 8) (offsets (first_place b) (item_bytes b)) in
-    header ++ (list ++ (b.lead ++ concat (item_bytes b)))
+    header ++ (offset_list b ++ (b.lead ++ concat (item_bytes b)))
 
 -- the bytes of a body
 abbrev pub body_bytes : Body → List ℕ

@@ -9,6 +9,7 @@
 //! a part by its first bytes and its length, for a reader that does not keep the rest.
 #![tactic(auto)]
 
+mod accepted;
 mod all;
 mod checking;
 mod decoding;

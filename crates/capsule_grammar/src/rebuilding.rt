@@ -9,17 +9,18 @@ ghost use Rattle.fmp_headers.specs.CapsuleHeader.{image_size};
 ghost use Rattle.capsule_grammar.specs.Accepted.{IsFront, IsFmpBody, IsImageItem};
 ghost use Rattle.capsule_grammar.specs.Faults.{told_by};
 ghost use Rattle.capsule_grammar.specs.Reading.{capsule_of, fmp_of};
-ghost use Rattle.capsule_grammar.specs.Rebuilt.{emptied, emptied_fmp, with_body, kept, kept_items};
+ghost use Rattle.capsule_grammar.specs.Rebuilt.{emptied, emptied_fmp, emptied_on, kept, kept_items, kept_list};
 ghost use Rattle.capsule_grammar.specs.Refusals.{refusal, body_of, item_count, list_end, image_parts_size};
 ghost use Rattle.capsule_grammar.specs.declared.value.Body.TheVariants.{Fmp};
 ghost use Rattle.capsule_grammar.specs.Spelling.{spelling, fmp_bytes, offsets};
 
+use crate::accepted::{body, capsule_header, image_header};
 use crate::checking::item;
 use crate::header::is_fmp_guid;
-use crate::reading::image_header;
+use crate::parts::{driver_count, image_count, item_count, list_end};
 use crate::{DecodeFault, check};
-use cu_base::{Blob, NoMemory, guid_at, put_u64, u16_at, u32_at};
-use fmp_headers::{CapsuleHeader, FmpHeader, image_header_size};
+use cu_base::{Blob, NoMemory, put_u64};
+use fmp_headers::{CAPSULE_HEADER_BYTES, CapsuleHeader, FmpHeader, image_header_size};
 use std::alloc::Global;
 
 /// The bytes of the capsule at the front with its lead and every pad empty. All else, `ext` too, is kept.
@@ -28,7 +29,7 @@ pub fn rebuild(alloc: Global, bytes: &[u8]) -> Result<Blob, DecodeFault>
     ensures refused { AnswersBy told_by result (refusal bytes.now) }
 {
     let size = check(bytes)?;
-    if is_fmp_guid(&guid_at(bytes, 0)) {
+    if is_fmp_guid(&capsule_header(bytes).guid) {
         Ok(rebuild_fmp(alloc, bytes)?)
     } else {
         Ok(Blob::from_slice(alloc, &bytes[..size])?)
@@ -39,33 +40,35 @@ pub fn rebuild(alloc: Global, bytes: &[u8]) -> Result<Blob, DecodeFault>
 /// they are.
 pub fn is_rebuilt(bytes: &[u8]) -> bool
     requires { refusal bytes.now ≡ None }
-    ensures { result ≡ true ↔ spelling (emptied (capsule_of bytes.now)) ≡ take (image_size bytes.now) bytes.now }
+    ensures { result ≡ true ↔
+        spelling (emptied (capsule_of bytes.now)) ≡ take (image_size bytes.now) bytes.now }
 {
-    if !is_fmp_guid(&guid_at(bytes, 0)) {
+    if !is_fmp_guid(&capsule_header(bytes).guid) {
         return true;
     }
-    let body = &bytes[u32_at(bytes, 16) as usize..u32_at(bytes, 24) as usize];
+    let body = body(bytes);
     kept_size(body) as usize == body.len()
 }
 
+/// An FMP capsule with its lead and every pad empty.
 fn rebuild_fmp(alloc: Global, bytes: &[u8]) -> Result<Blob, NoMemory>
     requires front { IsFront bytes.now }
     requires fmp { IsFmpBody (body_of bytes.now) }
-    ensures { IfOk result (λ out. out ≡ spelling (with_body bytes.now (Fmp (emptied_fmp (fmp_of (body_of bytes.now)))))) }
+    ensures { IfOk result (λ out. out ≡ spelling (emptied_on bytes.now)) }
 {
-    let head = u32_at(bytes, 16);
-    let body = &bytes[head as usize..u32_at(bytes, 24) as usize];
-    let size = head + kept_size(body);
+    let header = capsule_header(bytes);
+    let body = body(bytes);
+    let size = header.header_size + kept_size(body);
     let mut out = Blob::new(alloc);
     out.reserve(size as usize)?;
     CapsuleHeader {
-        guid: guid_at(bytes, 0),
-        header_size: head,
-        flags: u32_at(bytes, 20),
+        guid: header.guid,
+        header_size: header.header_size,
+        flags: header.flags,
         image_size: size,
     }
     .write_into(&mut out)?;
-    out.push_slice(&bytes[28..head as usize])?;
+    out.push_slice(&bytes[CAPSULE_HEADER_BYTES as usize..header.header_size as usize])?;
     put_kept_body(&mut out, body)?;
     Ok(out)
 }
@@ -78,13 +81,14 @@ fn kept(body: &[u8], k: u32) -> &[u8]
     ensures { result.now ≡ kept body.now k }
 {
     let item = item(body, k);
-    if k < u16_at(body, 4) as u32 {
+    if k < driver_count(body) as u32 {
         item
     } else {
         &item[..parts_size(item)]
     }
 }
 
+/// The bytes of header, update image and vendor code of an image item.
 fn parts_size(image: &[u8]) -> usize
     requires { IsImageItem image.now }
     ensures { result ≡ image_parts_size image.now }
@@ -95,38 +99,28 @@ fn parts_size(image: &[u8]) -> usize
         + header.vendor_size as usize
 }
 
-/// How many items the body has.
-fn count(body: &[u8]) -> u32
-    requires { IsFmpBody body.now }
-    ensures items { result ≡ item_count body.now }
-    ensures few { result < 2 ^ 17 }
-{
-    u16_at(body, 4) as u32 + u16_at(body, 6) as u32
-}
-
 /// The bytes of the body that is left.
 fn kept_size(body: &[u8]) -> u32
     requires body { IsFmpBody body.now }
     requires small { length body.now < 2 ^ 31 }
-    ensures size { result ≡ list_end body.now + length (concat (kept_items body.now)) }
-    ensures within { result ≤ length body.now }
+    ensures value { result ≡ list_end body.now + length (concat (kept_items body.now)) }
+    ensures bound { result ≤ length body.now }
 {
-    let items = count(body);
-    let mut size = 8 + 8 * items;
-    for k in 0..items {
-        let part = kept(body, k);
-        size += part.len() as u32;
+    let mut size = list_end(body);
+    for k in 0..item_count(body) {
+        size += kept(body, k).len() as u32;
     }
     size
 }
 
+/// Appends the body that is left.
 fn put_kept_body(out: &mut Blob, body: &[u8]) -> Result<(), NoMemory>
     requires { IsFmpBody body.now }
     ensures { OnOk result (out.new ≡ out.old ++ fmp_bytes (emptied_fmp (fmp_of body.now))) }
 {
     FmpHeader {
-        drivers: u16_at(body, 4),
-        items: u16_at(body, 6),
+        drivers: driver_count(body),
+        items: image_count(body),
     }
     .write_into(out)?;
     put_kept_offsets(out, body)?;
@@ -134,28 +128,26 @@ fn put_kept_body(out: &mut Blob, body: &[u8]) -> Result<(), NoMemory>
     Ok(())
 }
 
+/// Appends the offset list of the items that are kept, which begin behind it.
 fn put_kept_offsets(out: &mut Blob, body: &[u8]) -> Result<(), NoMemory>
     requires { IsFmpBody body.now }
-    ensures { OnOk result (out.new ≡ out.old ++ flat_map (bytes_of 8) (offsets (list_end body.now) (kept_items body.now))) }
+    ensures { OnOk result (out.new ≡ out.old ++ kept_list body.now) }
 {
-    let items = count(body);
-    let mut here = 8 + 8 * items as u64;
-    for k in 0..items {
+    let mut here = list_end(body) as u64;
+    for k in 0..item_count(body) {
         put_u64(out, here)?;
-        let part = kept(body, k);
-        here += part.len() as u64;
+        here += kept(body, k).len() as u64;
     }
     Ok(())
 }
 
+/// Appends what is kept of each item.
 fn put_kept_items(out: &mut Blob, body: &[u8]) -> Result<(), NoMemory>
     requires { IsFmpBody body.now }
     ensures { OnOk result (out.new ≡ out.old ++ concat (kept_items body.now)) }
 {
-    let items = count(body);
-    for k in 0..items {
-        let part = kept(body, k);
-        out.push_slice(part)?;
+    for k in 0..item_count(body) {
+        out.push_slice(kept(body, k))?;
     }
     Ok(())
 }

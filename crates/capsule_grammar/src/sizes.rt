@@ -1,11 +1,10 @@
 //! The sizes of spellings. A size that passes 2^64 - 1 is told as that.
 
-ghost use Rattle.std.specs.Prelude.{◌≡◌, ◌+◌, ◌<◌, [], length, slice_index_or, IsTrue};
-ghost use Rattle.capsule_grammar.specs.Fits.{fits, body_fits, fmp_fits, image_fits};
+ghost use Rattle.std.specs.Prelude.{◌≡◌, ◌+◌, ◌-◌, ◌<◌, ◌^◌, [], length, min, slice_index_or, IsTrue};
+ghost use Rattle.capsule_grammar.specs.Fits.{fits, fmp_fits, image_fits, parts_fit};
 ghost use Rattle.capsule_grammar.specs.Sizes.{IsSizeOf};
-ghost use Rattle.capsule_grammar.specs.Spelling.{spelling, body_bytes, fmp_bytes, item_bytes, image_bytes};
+ghost use Rattle.capsule_grammar.specs.Spelling.{body_bytes, fmp_bytes, header_of, image_bytes, item_bytes};
 
-use crate::header::is_fmp_guid;
 use crate::{Body, Capsule, FmpBody, Image};
 use fmp_headers::CAPSULE_HEADER_BYTES;
 
@@ -23,8 +22,8 @@ fn image_size(image: &Image) -> u64
 /// How many items there are, drivers among them.
 pub fn item_count(body: &FmpBody) -> usize
     requires { IsTrue (fmp_fits body.now) }
-    ensures count { result ≡ length (item_bytes body.now) }
-    ensures few { result < 131072 }
+    ensures value { result ≡ length (item_bytes body.now) }
+    ensures bound { result < 131072 }
 {
     body.drivers.len() + body.images.len()
 }
@@ -57,8 +56,9 @@ fn fmp_size(body: &FmpBody) -> u64
     size
 }
 
-fn body_size(body: &Body, is_fmp: bool) -> u64
-    requires { IsTrue (body_fits is_fmp body.now) }
+/// The bytes of a body.
+fn body_size(body: &Body) -> u64
+    requires { IsTrue (parts_fit body.now) }
     ensures { IsSizeOf result (body_bytes body.now) }
 {
     match body {
@@ -67,14 +67,13 @@ fn body_size(body: &Body, is_fmp: bool) -> u64
     }
 }
 
-/// The bytes of the whole capsule.
+/// The CapsuleImageSize of the capsule: the bytes of header, ext and body.
+#[tactic(auto, using(crate::proofs::SizeLemmas::parts_are_fit))]
 pub fn capsule_size(capsule: &Capsule) -> u64
     requires { IsTrue (fits capsule.now) }
-    ensures { IsSizeOf result (spelling capsule.now) }
+    ensures { result ≡ min (header_of capsule.now).image_size (2 ^ 64 - 1) }
 {
-    let _guid: &[u8] = &capsule.guid.bytes;
-    let is_fmp = is_fmp_guid(&capsule.guid);
     (CAPSULE_HEADER_BYTES as u64)
         .saturating_add(capsule.ext.len() as u64)
-        .saturating_add(body_size(&capsule.body, is_fmp))
+        .saturating_add(body_size(&capsule.body))
 }

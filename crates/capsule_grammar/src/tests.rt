@@ -351,18 +351,19 @@ fn at_most_eight_capsules_back_to_back(rt: HostRuntime) -> Result<(), Fail> {
 /// items begin and the last one ends, if the front has the whole list of two.
 fn judged(front: &[u8], size: u32) -> Result<Option<[usize; 3]>, Refusal>
     requires header { 8 ≤ length front.now }
+    requires some { 8 ≤ size }
     requires small { size ≤ 1000 }
 {
+    let front = &front[..front.len().min(size as usize)];
     check_fmp_header(front, size, 28)?;
-    let items = item_count(front);
-    if items != 2 || front.len() < 24 || (size as usize) < front.len() {
+    if item_count(front) != 2 || front.len() < 24 {
         return Ok(None);
     }
     check_offsets(front, size, 28)?;
     Ok(Some([
-        start_of(front, size, 0),
-        start_of(front, size, 1),
-        start_of(front, size, 2),
+        start_of(front, size as usize, 0),
+        start_of(front, size as usize, 1),
+        start_of(front, size as usize, 2),
     ]))
 }
 

@@ -5,7 +5,7 @@ use std::alloc::Global;
 use std::marker::Model;
 
 /// A text. Contracts see the bytes of its UTF-8.
-#[derive(Drop)]
+#[derive(Debug, Drop)]
 pub struct Text {
     inside: String,
 }

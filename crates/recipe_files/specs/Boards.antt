@@ -1,5 +1,5 @@
 -- A board's text: the document that `toml` reads of it, its tests in order, and the board that it says.
-use Rattle.std.specs.Prelude.{◌≡◌, ℕ, String, List, [], ◌∷◌, length, map, nat_lt, ◌==◌, Option, None, Some, Result, Ok, Err, if◌then◌else◌}
+use Rattle.std.specs.Prelude.{◌≡◌, ℕ, Bool, String, List, [], ◌∷◌, length, map, nat_lt, ◌==◌, Option, None, Some, Result, Ok, Err, if◌then◌else◌}
 use Rattle.std.specs.BTreeMap.{BTreeMap}
 use Rattle.std.specs.declared.alloc.Global.{Global}
 use Rattle.std.specs.Str.{is_utf8}
@@ -7,33 +7,47 @@ use Rattle.toml.specs.Data.{Members}
 use Rattle.toml.specs.declared.value.Value.{Value}
 use Rattle.toml.specs.View.{table_view}
 use Rattle.toml.specs.Parse.{parse_document}
-use Rattle.bench_model.specs.Boards.{BoardValue, least_bank}
+use Rattle.bench_model.specs.Boards.{BoardValue, least_bank, most_capacity}
+use Rattle.bench_model.specs.declared.limits.TheConstants.{MAX_STORE}
 use Rattle.recipe_files.specs.declared.faults.BadKind.{BadKind}
 use Rattle.recipe_files.specs.declared.faults.BadKind.TheVariants.{BadToml, MissingKey, BankTooSmall}
 use Rattle.recipe_files.specs.declared.faults.Fault.{Fault}
 use Rattle.recipe_files.specs.declared.faults.FileFault.{FileFault}
 use Rattle.recipe_files.specs.declared.faults.FileFault.TheVariants.{Bad, Memory}
-use Rattle.recipe_files.specs.declared.keys.Key.TheVariants.{Whole, Bank, ResultMax, Digests, Device}
+use Rattle.recipe_files.specs.declared.keys.Key.TheVariants.{Whole, Bank, Store, Layout, ResultMax}
+use Rattle.recipe_files.specs.declared.keys.Key.TheVariants.{Digests, Device}
 use Rattle.recipe_files.specs.declared.faults.Stop.{Stop}
 use Rattle.recipe_files.specs.declared.faults.Stop.TheVariants as stop
 use Rattle.recipe_files.specs.Keys.{key_name}
 use Rattle.recipe_files.specs.Faults.{fault_if, first_fault}
 use Rattle.recipe_files.specs.Tests.{key_test}
-use Rattle.recipe_files.specs.Values.{number_in, entries_in}
+use Rattle.recipe_files.specs.Values.{number_in, number_or, text_in, is_two, entries_in}
 use Rattle.recipe_files.specs.Digests.{digest_of, digest_test}
 use Rattle.recipe_files.specs.Devices.{device_of, entry_tests}
+
+-- whether the devices of a document have two banks each; without a layout they have one
+abbrev pub has_two_banks : Members → Bool
+has_two_banks table = is_two (text_in Layout table)
+
+-- the format of the store of a document; without one it is the last
+abbrev pub store_in : Members → ℕ
+store_in table = number_or MAX_STORE Store table
 
 -- the tests of a document, in the order of the keys
 abbrev pub board_tests : Members → List (Option Fault)
 board_tests table =
     key_test Bank table
+    ∷ key_test Store table
+    ∷ key_test Layout table
     ∷ key_test ResultMax table
     ∷ key_test Digests table
     ∷ first_fault (map digest_test (entries_in Digests table))
     ∷ key_test Device table
     ∷ fault_if (length (entries_in Device table) == 0) MissingKey Device
-    ∷ first_fault (entry_tests [] (entries_in Device table))
-    ∷ fault_if (nat_lt (number_in Bank table) (least_bank (number_in ResultMax table))) BankTooSmall Bank
+    ∷ first_fault (entry_tests (most_capacity (has_two_banks table)) [] (entries_in Device table))
+    ∷ fault_if
+    (nat_lt (number_in Bank table) (least_bank (number_in ResultMax table)))
+    BankTooSmall Bank
     ∷ []
 
 -- the first fault of a document
@@ -44,6 +58,8 @@ board_test table = first_fault (board_tests table)
 unfoldable pub board_in : Members → BoardValue
 board_in table = record {
   bank = number_in Bank table;
+  store = store_in table;
+  two_banks = has_two_banks table;
   result_max = number_in ResultMax table;
   digests = map digest_of (entries_in Digests table);
   devices = map device_of (entries_in Device table);

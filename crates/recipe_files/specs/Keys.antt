@@ -1,13 +1,21 @@
 -- The keys of a board's text, and what each takes.
 use Rattle.std.specs.Prelude.{ℕ, List, codes}
-use Rattle.bench_model.specs.declared.limits.TheConstants.{MAX_BANK, MAX_CAPACITY, MAX_DEVICES, MAX_DIGESTS, MAX_FW_TYPE, MAX_INSTANCE, MIN_BANK, MIN_CAPACITY}
+use Rattle.bench_model.specs.declared.limits.TheConstants.{MAX_BANK, MAX_CAPACITY, MAX_DEVICES}
+use Rattle.bench_model.specs.declared.limits.TheConstants.{MAX_DIGESTS, MAX_FW_TYPE, MAX_INSTANCE}
+use Rattle.bench_model.specs.declared.limits.TheConstants.{MAX_STORE, MIN_BANK, MIN_CAPACITY}
+use Rattle.bench_model.specs.declared.limits.TheConstants.{MIN_STORE}
 use Rattle.recipe_files.specs.declared.keys.Key.{Key}
-use Rattle.recipe_files.specs.declared.keys.Key.TheVariants.{Whole, Bank, ResultMax, Digests, Device, Name, TypeId, Index, Instance, FwType, Capacity, Version, Floor, Flags}
+use Rattle.recipe_files.specs.declared.keys.Key.TheVariants.{Whole, Bank, Store, Layout, ResultMax}
+use Rattle.recipe_files.specs.declared.keys.Key.TheVariants.{Digests, Device, Name, TypeId, Index}
+use Rattle.recipe_files.specs.declared.keys.Key.TheVariants.{Instance, FwType, Capacity, Version}
+use Rattle.recipe_files.specs.declared.keys.Key.TheVariants.{Floor, Flags}
 
 -- the plain name of a key, and '-' for the whole text
 abbrev pub key_name : Key → List ℕ
 key_name Whole = codes "-"
 key_name Bank = codes "bank"
+key_name Store = codes "store"
+key_name Layout = codes "layout"
 key_name ResultMax = codes "result_max"
 key_name Digests = codes "digests"
 key_name Device = codes "device"
@@ -26,13 +34,17 @@ pub data Values : Type 0 where
   nothing : Values
   numbers : ℕ → ℕ → Values  -- an integer from the first to the second
   names : Values  -- a text that is the name of a device
+  layouts : Values  -- a text that is `one` or `two`
   guids : Values  -- a text that is a GUID
   lists : ℕ → Values  -- a list of at most so many entries
+  optional : Values → Values  -- the same, or nothing where the key is absent
 
 -- what each key takes: its kind and its range
 abbrev pub values_of : Key → Values
 values_of Whole = nothing
 values_of Bank = numbers MIN_BANK MAX_BANK
+values_of Store = optional (numbers MIN_STORE MAX_STORE)
+values_of Layout = optional layouts
 values_of ResultMax = numbers 0 65535
 values_of Digests = lists MAX_DIGESTS
 values_of Device = lists MAX_DEVICES

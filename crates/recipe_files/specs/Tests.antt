@@ -7,8 +7,9 @@ use Rattle.recipe_files.specs.declared.faults.BadKind.{BadKind}
 use Rattle.recipe_files.specs.declared.faults.BadKind.TheVariants.{MissingKey, WrongKind, OutOfRange, BadGuid}
 use Rattle.recipe_files.specs.declared.faults.Fault.{Fault}
 use Rattle.recipe_files.specs.declared.keys.Key.{Key}
-use Rattle.recipe_files.specs.Keys.{key_name, Values, nothing, numbers, names, guids, lists, values_of}
-use Rattle.recipe_files.specs.Values.{entries}
+use Rattle.recipe_files.specs.Keys.{Values, nothing, numbers, names, layouts, guids, lists, optional}
+use Rattle.recipe_files.specs.Keys.{key_name, values_of}
+use Rattle.recipe_files.specs.Values.{entries, is_layout}
 
 -- a number is within a range
 abbrev pub is_within : ℕ → ℕ → ℤ → Bool
@@ -25,15 +26,30 @@ abbrev pub value_fault : Values → Data → Option BadKind
 value_fault nothing d = None
 value_fault (numbers low high) d = kind_of_fault OutOfRange (is_within low high) (as_integer d)
 value_fault names d = kind_of_fault OutOfRange is_device_name (as_str d)
+value_fault layouts d = kind_of_fault OutOfRange is_layout (as_str d)
 value_fault guids d = kind_of_fault BadGuid (λ text. is_ok (guid_of_text text)) (as_str d)
-value_fault (lists most) d = kind_of_fault OutOfRange (λ items. nat_le (length (entries items)) most) (as_array d)
+value_fault (lists most) d =
+    kind_of_fault OutOfRange (λ items. nat_le (length (entries items)) most) (as_array d)
+value_fault (optional values) d = value_fault values d
+
+-- the fault of a key that is absent: only an optional one may be
+abbrev pub absence_fault : Values → Option BadKind
+absence_fault nothing = Some MissingKey
+absence_fault (numbers low high) = Some MissingKey
+absence_fault names = Some MissingKey
+absence_fault layouts = Some MissingKey
+absence_fault guids = Some MissingKey
+absence_fault (lists most) = Some MissingKey
+absence_fault (optional values) = None
 
 -- a fault at a key
 abbrev pub fault_at : Values → Option Data → Option BadKind
-fault_at values None = Some MissingKey
+fault_at values None = absence_fault values
 fault_at values (Some d) = value_fault values d
 
 -- the fault of a key by its own value
 unfoldable pub key_test : Key → Members → Option Fault
 key_test key table =
-    option_map (λ kind. record { kind = kind; key = key }) (fault_at (values_of key) (get_member (key_name key) table))
+    option_map
+    (λ kind. record { kind = kind; key = key })
+    (fault_at (values_of key) (get_member (key_name key) table))

@@ -1,7 +1,8 @@
 -- The values that a table holds at its keys.
-use Rattle.std.specs.Prelude.{ℕ, ℤ, pos, negsuc, List, [], ◌∷◌, replicate, unwrap_or}
+use Rattle.std.specs.Prelude.{ℕ, ℤ, pos, negsuc, Bool, ◌||◌, List, [], ◌∷◌, codes, replicate, unwrap_or}
 use Rattle.std.specs.Option.{option_map_or}
 use Rattle.std.specs.Result.{result_unwrap_or}
+use Rattle.std.specs.Str.{bytes_eq}
 use Rattle.toml.specs.Data.{Data, Items, no_items, item, Members, as_array, as_integer, as_str, get_member}
 use Rattle.cu_base.specs.declared.guid.Guid.{Guid}
 use Rattle.cu_base.specs.Guids.{guid_of_text}
@@ -37,6 +38,18 @@ guid_of d = result_unwrap_or (guid_of_text (text_of d)) no_guid
 -- a value as a list
 abbrev pub entries_of : Data → List Data
 entries_of d = entries (unwrap_or (as_array d) no_items)
+
+-- a text is the layout of devices with two banks
+abbrev pub is_two : List ℕ → Bool
+is_two text = bytes_eq text (codes "two")
+
+-- a text is a layout of devices: `one` or `two`
+abbrev pub is_layout : List ℕ → Bool
+is_layout text = bytes_eq text (codes "one") || is_two text
+
+-- the number at a key, or this one where the key is absent
+unfoldable pub number_or : ℕ → Key → Members → ℕ
+number_or default key table = option_map_or number_of (get_member (key_name key) table) default
 
 -- the number at a key
 unfoldable pub number_in : Key → Members → ℕ

@@ -1,23 +1,50 @@
 ghost use Rattle.std.specs.Prelude.{◌≡◌, Ok, IfOk, IfErr};
 ghost use Rattle.toml.specs.View.{table_view};
-ghost use Rattle.recipe_files.specs.Boards.{FindsTable, TellsFault, board_in, board_of, board_test, board_text, document, document_test};
+ghost use Rattle.recipe_files.specs.Boards.{FindsTable, TellsFault, board_in, board_of};
+ghost use Rattle.recipe_files.specs.Boards.{board_test, board_text, document, document_test};
+ghost use Rattle.bench_model.specs.Boards.{most_capacity};
 ghost use Rattle.recipe_files.specs.Faults.{Reads};
 
 use crate::devices::read_devices;
 use crate::digests::read_digests;
 use crate::faults::{BadKind, Fault, FileFault, Stop};
 use crate::keys::{Key, key_name};
-use crate::values::{list_at, number_at};
-use bench_model::{BANK_BASE, Board, MAX_BANK, MAX_DEVICES, MAX_DIGESTS, MIN_BANK, RESULT_ROOM};
+use crate::values::{is_two_at, list_at, number_at, number_or};
+use bench_model::{
+    BANK_BASE, Board, MAX_BANK, MAX_CAPACITIES, MAX_DEVICES, MAX_DIGESTS, MAX_STORE,
+    MAX_TWO_BANK_CAPACITIES, MIN_BANK, MIN_STORE, RESULT_ROOM,
+};
 use cu_base::Text;
 use std::alloc::Global;
 use toml::Table;
 
+/// The most bytes of all capacities in sum, with two banks a device or one.
+fn most_capacity(two_banks: bool) -> u32
+    ensures { result ≡ most_capacity two_banks }
+{
+    if two_banks {
+        MAX_TWO_BANK_CAPACITIES
+    } else {
+        MAX_CAPACITIES
+    }
+}
+
+/// The board of a document.
 #[tactic(auto, unfolding(crate::specs::Boards::board_test, crate::specs::Boards::board_in))]
 fn read_table(alloc: Global, table: &Table) -> Result<Board, Stop>
-    ensures { Reads (board_test (table_view table.now)) (λ board. board ≡ board_in (table_view table.now)) result }
+    ensures { Reads (board_test (table_view table.now))
+        (λ board. board ≡ board_in (table_view table.now))
+        result }
 {
     let bank = number_at(table, Key::Bank, u64::from(MIN_BANK), u64::from(MAX_BANK))? as u32;
+    let store = number_or(
+        table,
+        Key::Store,
+        u64::from(MIN_STORE),
+        u64::from(MAX_STORE),
+        u64::from(MAX_STORE),
+    )? as u32;
+    let two_banks = is_two_at(table, Key::Layout)?;
     let result_max = number_at(table, Key::ResultMax, 0, u64::from(u16::MAX))? as u16;
     let digests = read_digests(alloc, list_at(table, Key::Digests, MAX_DIGESTS)?)?;
     let list = list_at(table, Key::Device, MAX_DEVICES)?;
@@ -27,14 +54,14 @@ fn read_table(alloc: Global, table: &Table) -> Result<Board, Stop>
             key: Key::Device,
         }));
     }
-    let devices = read_devices(alloc, list)?;
+    let devices = read_devices(alloc, list, most_capacity(two_banks))?;
     if bank < BANK_BASE + RESULT_ROOM * (u32::from(result_max) + 1) {
         return Err(Stop::Bad(Fault {
             kind: BadKind::BankTooSmall,
             key: Key::Bank,
         }));
     }
-    Ok(Board::new(bank, result_max, digests, devices))
+    Ok(Board::new(bank, store, two_banks, result_max, digests, devices))
 }
 
 /// The document of a text.
@@ -57,7 +84,9 @@ fn read_document(alloc: Global, bytes: &[u8]) -> Result<Table, Stop>
 }
 
 fn read_text(alloc: Global, bytes: &[u8]) -> Result<Board, Stop>
-    ensures { Reads (document_test (document bytes.now)) (λ board. board_of (document bytes.now) ≡ Ok board) result }
+    ensures { Reads (document_test (document bytes.now))
+        (λ board. board_of (document bytes.now) ≡ Ok board)
+        result }
 {
     let table = read_document(alloc, bytes)?;
     read_table(alloc, &table)

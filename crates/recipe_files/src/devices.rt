@@ -1,6 +1,7 @@
 ghost use Rattle.std.specs.Prelude.{◌≡◌, Some, None, [], ◌∷◌, ◌++◌, MatchResult, map};
 ghost use Rattle.toml.specs.View.{view, table_view};
-ghost use Rattle.recipe_files.specs.Devices.{IsFactory, device_in, device_of, entry_test, entry_tests, factory_tests, table_test};
+ghost use Rattle.recipe_files.specs.Devices.{Adds, AreRead, IsFactory, device_in, device_of};
+ghost use Rattle.recipe_files.specs.Devices.{entry_test, entry_tests, factory_tests, table_test};
 ghost use Rattle.recipe_files.specs.Faults.{Reads, first_fault};
 
 use crate::faults::{BadKind, Fault, Stop};
@@ -22,10 +23,11 @@ struct Factory {
     flags: u32,
 }
 
-fn factory_at(table: &Table) -> Result<Factory, Fault>
+/// The factory state in a table, where so many bytes of capacity are left on the board.
+fn factory_at(table: &Table, room: u32) -> Result<Factory, Fault>
     ensures { MatchResult result
-        (λ factory. IsFactory (table_view table.now) factory)
-        (λ fault. first_fault (factory_tests (table_view table.now)) ≡ Some fault) }
+        (λ factory. IsFactory room (table_view table.now) factory)
+        (λ fault. first_fault (factory_tests room (table_view table.now)) ≡ Some fault) }
 {
     let fw_type = number_at(table, Key::FwType, 0, u64::from(MAX_FW_TYPE))?;
     let capacity = number_at(
@@ -34,6 +36,12 @@ fn factory_at(table: &Table) -> Result<Factory, Fault>
         u64::from(MIN_CAPACITY),
         u64::from(MAX_CAPACITY),
     )?;
+    if u64::from(room) < capacity {
+        return Err(Fault {
+            kind: BadKind::OutOfRange,
+            key: Key::Capacity,
+        });
+    }
     let version = number_at(table, Key::Version, 0, u64::from(u32::MAX))?;
     let floor = number_at(table, Key::Floor, 0, u64::from(u32::MAX))?;
     let flags = number_at(table, Key::Flags, 0, u64::from(u32::MAX))?;
@@ -46,15 +54,15 @@ fn factory_at(table: &Table) -> Result<Factory, Fault>
     })
 }
 
-/// Reads a table and appends its device.
+/// Reads a table and appends its device, where so many bytes of capacity are left on the board.
+/// It tells what is left behind it.
 #[tactic(auto, unfolding(crate::specs::Devices::table_test))]
-fn add_device(alloc: Global, devices: &mut Devices, table: &Table) -> Result<(), Stop>
-    ensures { Reads (table_test devices.old.items (table_view table.now)) (λ _. devices.new.items ≡ devices.old.items ++ device_in (table_view table.now) ∷ []) result }
+fn add_device(alloc: Global, devices: &mut Devices, table: &Table, room: u32) -> Result<u32, Stop>
+    ensures { Reads (table_test room devices.old.items (table_view table.now))
+        (Adds devices.old.items (device_in (table_view table.now)) devices.new.items room)
+        result }
 {
-    let name = match name_at(table, Key::Name) {
-        Ok(name) => name,
-        Err(fault) => return Err(Stop::Bad(fault)),
-    };
+    let name = name_at(table, Key::Name)?;
     if devices.has_name(name) {
         return Err(Stop::Bad(Fault {
             kind: BadKind::Repeated,
@@ -70,7 +78,7 @@ fn add_device(alloc: Global, devices: &mut Devices, table: &Table) -> Result<(),
             key: Key::Instance,
         }));
     }
-    let factory = factory_at(table)?;
+    let factory = factory_at(table, room)?;
     devices.push(Device {
         name: Text::from_str(alloc, name)?,
         type_id,
@@ -82,16 +90,19 @@ fn add_device(alloc: Global, devices: &mut Devices, table: &Table) -> Result<(),
         floor: factory.floor,
         flags: factory.flags,
     })?;
-    Ok(())
+    Ok(room - factory.capacity)
 }
 
-/// Reads an entry of the list and appends its device.
+/// Reads an entry of the list and appends its device, where so much capacity is left. It tells what
+/// is left behind it.
 #[tactic(auto, unfolding(crate::specs::Devices::entry_test, crate::specs::Devices::device_of))]
-fn add_entry(alloc: Global, devices: &mut Devices, entry: &Value) -> Result<(), Stop>
-    ensures { Reads (entry_test devices.old.items (view entry.now)) (λ _. devices.new.items ≡ devices.old.items ++ device_of (view entry.now) ∷ []) result }
+fn add_entry(alloc: Global, devices: &mut Devices, entry: &Value, room: u32) -> Result<u32, Stop>
+    ensures { Reads (entry_test room devices.old.items (view entry.now))
+        (Adds devices.old.items (device_of (view entry.now)) devices.new.items room)
+        result }
 {
     match entry.as_table() {
-        Some(table) => add_device(alloc, devices, table),
+        Some(table) => add_device(alloc, devices, table, room),
         None => Err(Stop::Bad(Fault {
             kind: BadKind::WrongKind,
             key: Key::Device,
@@ -99,13 +110,16 @@ fn add_entry(alloc: Global, devices: &mut Devices, entry: &Value) -> Result<(), 
     }
 }
 
-/// The devices of a list.
-pub(crate) fn read_devices(alloc: Global, list: &Array) -> Result<Devices, Stop>
-    ensures { Reads (first_fault (entry_tests [] (map view list.now.items))) (λ devices. devices.items ≡ map device_of (map view list.now.items)) result }
+/// The devices of a list, whose capacities have at most so many bytes in sum.
+pub(crate) fn read_devices(alloc: Global, list: &Array, most: u32) -> Result<Devices, Stop>
+    ensures { Reads (first_fault (entry_tests most [] (map view list.now.items)))
+        (AreRead (map view list.now.items) most)
+        result }
 {
     let mut devices = Devices::new(alloc);
+    let mut room = most;
     for entry in list {
-        add_entry(alloc, &mut devices, entry)?;
+        room = add_entry(alloc, &mut devices, entry, room)?;
     }
     Ok(devices)
 }

@@ -22,11 +22,12 @@ pub enum BadKind {
 }
 
 /// Why a file is refused.
-#[derive(Drop)]
+#[derive(Debug, Drop, Error)]
 pub enum FileFault {
     /// The first fault of the text, and the plain name of its key; `-` for BadToml.
+    #[error("{kind}, at {name}", name = .key.as_str())]
     Bad { kind: BadKind, key: Text },
-    /// Memory ran out.
+    #[error("out of memory")]
     Memory,
 }
 

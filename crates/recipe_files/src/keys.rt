@@ -6,6 +6,8 @@ ghost use Rattle.recipe_files.specs.Keys.{key_name};
 pub(crate) enum Key {
     Whole,
     Bank,
+    Store,
+    Layout,
     ResultMax,
     Digests,
     Device,
@@ -27,6 +29,8 @@ pub(crate) fn key_name(key: Key) -> &'static str
     match key {
         Key::Whole => "-",
         Key::Bank => "bank",
+        Key::Store => "store",
+        Key::Layout => "layout",
         Key::ResultMax => "result_max",
         Key::Digests => "digests",
         Key::Device => "device",

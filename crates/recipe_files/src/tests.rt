@@ -83,9 +83,33 @@ fn absent_keys(rt: HostRuntime) {
 }
 
 #[test]
+fn absent_keys_that_are_optional(rt: HostRuntime) {
+    let alloc = rt.alloc();
+    let plain = board(alloc, &rt, &with_lines(alloc, &rt, &[]));
+    assert_eq!(rt; (plain.store(), plain.two_banks()), (2, false));
+    for (line, store, two_banks) in [
+        ("bank = 65536\nstore = 1", 1, false),
+        ("bank = 65536\nstore = 2", 2, false),
+        ("bank = 65536\nlayout = \"one\"", 2, false),
+        ("bank = 65536\nlayout = \"two\"", 2, true),
+        ("bank = 65536\nlayout = \"two\"\nstore = 1", 1, true),
+    ] {
+        let found = board(alloc, &rt, &with_lines(alloc, &rt, &[(0, line)]));
+        assert_eq!(rt;
+            (found.store(), found.two_banks()),
+            (store, two_banks),
+            "at {line}"
+        );
+    }
+}
+
+#[test]
 fn values_of_another_kind(rt: HostRuntime) {
     for (line, text, key) in [
         (0, "bank = true", "bank"),
+        (0, "bank = 65536\nstore = \"2\"", "store"),
+        (0, "bank = 65536\nlayout = 2", "layout"),
+        (0, "bank = 65536\nlayout = [\"two\"]", "layout"),
         (1, "result_max = \"15\"", "result_max"),
         (2, "digests = 1", "digests"),
         (2, "digests = [1]", "digests"),
@@ -109,6 +133,12 @@ fn values_outside_their_limits(rt: HostRuntime) {
         (0, "bank = 65535", "bank"),
         (0, "bank = 1048577", "bank"),
         (0, "bank = -65536", "bank"),
+        (0, "bank = 65536\nstore = 0", "store"),
+        (0, "bank = 65536\nstore = 3", "store"),
+        (0, "bank = 65536\nstore = -2", "store"),
+        (0, "bank = 65536\nlayout = \"\"", "layout"),
+        (0, "bank = 65536\nlayout = \"TWO\"", "layout"),
+        (0, "bank = 65536\nlayout = \"twos\"", "layout"),
         (1, "result_max = 65536", "result_max"),
         (1, "result_max = -1", "result_max"),
         (4, "name = \"\"", "name"),
@@ -164,6 +194,12 @@ fn other_faults(rt: HostRuntime) {
 fn the_first_fault_is_told(rt: HostRuntime) {
     let bank = [(0, "bank = 0"), (1, ""), (2, "")];
     tells(rt.alloc(), &rt, &bank, BadKind::OutOfRange, "bank");
+    let store = [(0, "bank = 65536\nlayout = 1\nstore = 3"), (1, "")];
+    tells(rt.alloc(), &rt, &store, BadKind::OutOfRange, "store");
+    let layout = [(0, "bank = 65536\nlayout = 1"), (1, "")];
+    tells(rt.alloc(), &rt, &layout, BadKind::WrongKind, "layout");
+    let capacity = [(9, "capacity = 0"), (10, "")];
+    tells(rt.alloc(), &rt, &capacity, BadKind::OutOfRange, "capacity");
     let bank_last = [(1, "result_max = 240"), (22, "")];
     tells(rt.alloc(), &rt, &bank_last, BadKind::MissingKey, "flags");
     let digests = [(2, "digests = [\"\", 1]"), (4, "")];
@@ -206,7 +242,7 @@ fn texts_that_are_no_board(rt: HostRuntime) {
             "device",
         ),
         (
-            b"bank = 65536\nresult_max = 15\ndigests = []\ndevice = [1,1,1,1,1,1,1,1,1]".as_slice(),
+            b"bank = 65536\nresult_max = 15\ndigests = []\ndevice = [1,1,1,1,1,1,1,1,1,1,1,1,1,1,1,1,1]".as_slice(),
             BadKind::OutOfRange,
             "device",
         ),
@@ -288,44 +324,143 @@ fn values_at_their_limits(rt: HostRuntime) {
     }
 }
 
-/// A board's text with so many devices and digests.
-fn with_counts(alloc: Global, rt: &impl Abort, devices: usize, digests: usize) -> String {
-    let mut text = String::from_str(alloc, "bank = 65536\nresult_max = 0\ndigests = [\n").expect(
-        rt, "memory",
-    );
+/// A board's text of these first lines, with so many digests and a device of each capacity.
+fn with_counts(
+    alloc: Global,
+    rt: &impl Abort,
+    head: &str,
+    digests: usize,
+    capacities: &[u32],
+) -> String {
+    let mut text = String::from_str(alloc, head).expect(rt, "memory");
+    text.push_str("\nresult_max = 0\ndigests = [\n")
+        .expect(rt, "memory");
     for _ in 0..digests {
         text.push_str("\"0123456789abcdef0123456789abcdef0123456789abcdef0123456789abcdef\",\n")
             .expect(rt, "memory");
     }
     text.push_str("]\n").expect(rt, "memory");
-    for number in 0..devices {
+    for (number, capacity) in capacities.iter().enumerate() {
         let table = format!(in alloc;
-            "[[device]]\nname = \"d{number}\"\ntype = \"aaaaaaaa-0000-0000-0000-000000000001\"\nindex = {number}\n"
+            "[[device]]\nname = \"d{number}\"\ntype = \"aaaaaaaa-0000-0000-0000-000000000001\"\nindex = {number}\ncapacity = {capacity}\n"
         ).expect(rt, "memory");
         text.push_str(table.as_str()).expect(rt, "memory");
-        text.push_str(
-            "instance = 0\nfw_type = 0\ncapacity = 1\nversion = 0\nfloor = 0\nflags = 0\n",
-        ).expect(rt, "memory");
+        text.push_str("instance = 0\nfw_type = 0\nversion = 0\nfloor = 0\nflags = 0\n")
+            .expect(rt, "memory");
     }
     text
 }
 
+const BANK: &str = "bank = 65536";
+
+const TWO: &str = "bank = 65536\nlayout = \"two\"";
+
+const MOST: u32 = 67_108_864;
+
 #[test]
 fn counts_at_their_limits(rt: HostRuntime) {
     let alloc = rt.alloc();
-    let full = board(alloc, &rt, &with_counts(alloc, &rt, 8, 1_024));
-    assert_eq!(rt; full.devices().len(), 8);
+    let full = board(alloc, &rt, &with_counts(alloc, &rt, BANK, 1_024, &[1; 16]));
+    assert_eq!(rt; full.devices().len(), 16);
     assert_eq!(rt; full.digests().len(), 1_024);
-    for (devices, digests, key) in [
-        (9, 0, "device"),
-        (1, 1_025, "digests"),
-        (9, 1_025, "digests"),
+    for (digests, devices, key) in [
+        (0, [1; 17].as_slice(), "device"),
+        (1_025, [1; 1].as_slice(), "digests"),
+        (1_025, [1; 17].as_slice(), "digests"),
     ] {
-        let text = with_counts(alloc, &rt, devices, digests);
+        let text = with_counts(alloc, &rt, BANK, digests, devices);
         assert_eq!(rt;
             told(alloc, text.as_str().as_bytes(), key),
             Some((BadKind::OutOfRange, true)),
             "at {key}"
         );
     }
+}
+
+// 536,870,912 is eight times 67,108,864, and 268,435,456 four times.
+#[test]
+fn capacities_in_sum(rt: HostRuntime) {
+    let alloc = rt.alloc();
+    for (head, capacities) in [
+        (BANK, [MOST; 8].as_slice()),
+        (
+            BANK,
+            [MOST, MOST, MOST, MOST, MOST, MOST, MOST, MOST - 1, 1].as_slice(),
+        ),
+        (TWO, [MOST; 4].as_slice()),
+        (TWO, [MOST, 1, MOST, MOST, MOST - 1].as_slice()),
+    ] {
+        let text = with_counts(alloc, &rt, head, 0, capacities);
+        assert_eq!(rt;
+            board(alloc, &rt, &text).devices().len(),
+            capacities.len(),
+            "at {text}"
+        );
+    }
+    for (head, capacities) in [
+        (
+            BANK,
+            [MOST, MOST, MOST, MOST, MOST, MOST, MOST, MOST, 1].as_slice(),
+        ),
+        (
+            BANK,
+            [MOST, MOST, MOST, MOST, MOST, MOST, MOST, MOST - 1, 2].as_slice(),
+        ),
+        (TWO, [MOST, MOST, MOST, MOST, 1].as_slice()),
+        (TWO, [MOST, 1, MOST, MOST, MOST].as_slice()),
+    ] {
+        let text = with_counts(alloc, &rt, head, 0, capacities);
+        assert_eq!(rt;
+            told(alloc, text.as_str().as_bytes(), "capacity"),
+            Some((BadKind::OutOfRange, true)),
+            "at {text}"
+        );
+    }
+}
+
+// The last device has wrong flags; where it also passes the sum, its capacity stands before them.
+#[test]
+fn the_sum_is_told_at_the_device_that_passes_it(rt: HostRuntime) {
+    let alloc = rt.alloc();
+    let ending = "\ninstance = 0\nfw_type = 0\nversion = 0\nfloor = 0\nflags = -1\n";
+    for (devices, key) in [(4, "capacity"), (3, "flags")] {
+        let mut text = with_counts(alloc, &rt, TWO, 0, &[MOST, MOST, MOST, MOST][..devices]);
+        text.push_str(
+            "[[device]]\nname = \"last\"\ntype = \"aaaaaaaa-0000-0000-0000-000000000001\"\nindex = 9\ncapacity = 2",
+        ).expect(&rt, "memory");
+        text.push_str(ending).expect(&rt, "memory");
+        assert_eq!(rt;
+            told(alloc, text.as_str().as_bytes(), key),
+            Some((BadKind::OutOfRange, true)),
+            "at {key}"
+        );
+    }
+}
+
+#[test]
+fn the_texts_of_faults(rt: HostRuntime) {
+    let alloc = rt.alloc();
+    for (kind, want) in [
+        (BadKind::BadToml, "the text is no TOML document"),
+        (BadKind::MissingKey, "a required key is absent"),
+        (BadKind::WrongKind, "the value is of another TOML kind"),
+        (BadKind::OutOfRange, "the value is outside its limits"),
+        (BadKind::BadGuid, "the text is no GUID"),
+        (
+            BadKind::Repeated,
+            "an earlier table has the same name, or the same type, index and instance",
+        ),
+        (
+            BadKind::BankTooSmall,
+            "the bank is too small for the results up to result_max",
+        ),
+    ] {
+        let shown = format!(in alloc; "{kind}").expect(&rt, "memory");
+        assert_eq!(rt; shown.as_str(), want);
+    }
+    let fault = read_board(alloc, b"bank = 1").err().expect(&rt, "a fault");
+    let shown = format!(in alloc; "{fault}").expect(&rt, "memory");
+    assert_eq!(rt; shown.as_str(), "the value is outside its limits, at bank");
+    let shown = format!(in alloc; "{}", FileFault::Memory).expect(&rt, "memory");
+    assert_eq!(rt; shown.as_str(), "out of memory");
 }

@@ -1,10 +1,13 @@
-ghost use Rattle.std.specs.Prelude.{◌≡◌, ◌≤◌, Some, None, MatchResult, IsTrue, map, length};
+ghost use Rattle.std.specs.Prelude.{◌≡◌, ◌≤◌, Some, None, MatchOption, MatchResult, IsTrue, map, length};
 ghost use Rattle.toml.specs.Data.{get_member};
 ghost use Rattle.toml.specs.View.{view, table_view};
 ghost use Rattle.bench_model.specs.Names.{is_device_name};
-ghost use Rattle.recipe_files.specs.Keys.{key_name, values_of, numbers, names, guids, lists};
+ghost use Rattle.recipe_files.specs.Keys.{key_name, values_of};
+ghost use Rattle.recipe_files.specs.Keys.{guids, layouts, lists, names, numbers, optional};
 ghost use Rattle.recipe_files.specs.Tests.{key_test, value_fault};
-ghost use Rattle.recipe_files.specs.Values.{entries_in, entries_of, guid_in, guid_of, number_in, number_of, text_in, text_of};
+ghost use Rattle.recipe_files.specs.Values.{entries_in, entries_of, guid_in, guid_of};
+ghost use Rattle.recipe_files.specs.Values.{is_two, number_in, number_of, number_or, text_in};
+ghost use Rattle.recipe_files.specs.Values.{text_of};
 
 use crate::faults::{BadKind, Fault};
 use crate::keys::{Key, key_name};
@@ -25,6 +28,54 @@ pub(crate) fn number_at(table: &Table, key: Key, low: u64, high: u64) -> Result<
         Ok(n) => Ok(n),
         Err(kind) => Err(Fault { kind, key }),
     }
+}
+
+/// The number at a key that may be absent, and takes the integers from `low` to `high`; the default
+/// where it is absent.
+#[tactic(auto, unfolding(crate::specs::Tests::key_test, crate::specs::Values::number_or))]
+pub(crate) fn number_or(
+    table: &Table,
+    key: Key,
+    low: u64,
+    high: u64,
+    default: u64,
+) -> Result<u64, Fault>
+    requires values { values_of key ≡ optional (numbers low high) }
+    requires default_low { low ≤ default }
+    requires default_high { default ≤ high }
+    ensures { MatchResult result
+        (λ n. (key_test key (table_view table.now) ≡ None)
+        × (number_or default key (table_view table.now) ≡ n) × (low ≤ n) × (n ≤ high))
+        (λ fault. key_test key (table_view table.now) ≡ Some fault) }
+{
+    let Some(value) = found_at(table, key) else {
+        return Ok(default);
+    };
+    match number_of(value, low, high) {
+        Ok(n) => Ok(n),
+        Err(kind) => Err(Fault { kind, key }),
+    }
+}
+
+/// Whether the layout at a key that may be absent is that of devices with two banks.
+#[tactic(auto, unfolding(crate::specs::Tests::key_test, crate::specs::Values::text_in))]
+pub(crate) fn is_two_at(table: &Table, key: Key) -> Result<bool, Fault>
+    requires { values_of key ≡ optional layouts }
+    ensures { MatchResult result
+        (λ two. (key_test key (table_view table.now) ≡ None)
+        × (is_two (text_in key (table_view table.now)) ≡ two))
+        (λ fault. key_test key (table_view table.now) ≡ Some fault) }
+{
+    let Some(value) = found_at(table, key) else {
+        return Ok(false);
+    };
+    let kind = match value.as_str() {
+        Some("one") => return Ok(false),
+        Some("two") => return Ok(true),
+        Some(_) => BadKind::OutOfRange,
+        None => BadKind::WrongKind,
+    };
+    Err(Fault { kind, key })
 }
 
 /// The name at a key that takes the name of a device.
@@ -95,18 +146,28 @@ pub(crate) fn list_at<'a>(table: &'a Table, key: Key, most: usize) -> Result<&'a
     }
 }
 
-/// The value at a key.
+/// The value at a key that has to be there.
 fn value_at<'a>(table: &'a Table, key: Key) -> Result<&'a Value, Fault>
     ensures { MatchResult result
         (λ v. get_member (key_name key) (table_view table.now) ≡ Some (view v.now))
-        (λ f. (get_member (key_name key) (table_view table.now) ≡ None) × (f ≡ record { kind = BadKind.MissingKey; key = key })) }
+        (λ f. (get_member (key_name key) (table_view table.now) ≡ None)
+        × (f ≡ record { kind = BadKind.MissingKey; key = key })) }
+{
+    found_at(table, key).ok_or(Fault {
+        kind: BadKind::MissingKey,
+        key,
+    })
+}
+
+/// The value at a key, where it is there.
+fn found_at<'a>(table: &'a Table, key: Key) -> Option<&'a Value>
+    ensures { MatchOption result
+        (get_member (key_name key) (table_view table.now) ≡ None)
+        (λ v. get_member (key_name key) (table_view table.now) ≡ Some (view v.now)) }
 {
     match table.get(key_name(key)) {
-        Some(value) => Ok(value),
-        None => Err(Fault {
-            kind: BadKind::MissingKey,
-            key,
-        }),
+        Some(value) => Some(value),
+        None => None,
     }
 }
 

@@ -20,4 +20,4 @@ returns-then-is_rebuilt c =
     ap done_with (sym (same_bytes c.args.bytes c.requires.whole same))
 
 pub returns-in-Ok : goal.returns-in-Ok
-returns-in-Ok c = ap done_with (c.in-Ok.ensures.rebuilt ∙ ap (λ (b : List ℕ). spelling (emptied (capsule_of b))) c.as_slice-2.ensures)
+returns-in-Ok c = ap done_with (c.in-Ok.ensures.ok ∙ ap (λ (b : List ℕ). spelling (emptied (capsule_of b))) c.as_slice-2.ensures)

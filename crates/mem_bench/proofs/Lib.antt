@@ -1,0 +1,3 @@
+pub mod FactoryLemmas
+pub mod FolderLemmas
+pub mod RegionLemmas

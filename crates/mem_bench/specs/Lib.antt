@@ -1,0 +1,4 @@
+pub mod Folders
+pub mod Parts
+pub mod Regions
+pub mod State

@@ -1,0 +1,18 @@
+//! A bench in memory: the flash, the volume and the memory of a platform, whose power is cut and whose
+//! calls fail by plan.
+#![tactic(auto)]
+
+mod bench;
+mod clerk;
+mod factory;
+mod flash;
+mod folder;
+mod order_book;
+mod orders;
+mod region;
+mod reset;
+mod stored_file;
+mod tickets;
+mod volume;
+
+pub use bench::MemBench;

@@ -1,0 +1,68 @@
+ghost use Rattle.std.specs.Prelude.{◌≡◌};
+ghost use Rattle.mem_bench.specs.Parts.{keeps_change};
+
+use crate::MemBench;
+use bench_model::{Choice, Listing, Strike, Volume, VolumeFault};
+use cu_base::{Failed, Text};
+use std::alloc::Global;
+
+impl Volume for MemBench {
+    fn list(&mut self, alloc: Global) -> Result<Listing, VolumeFault> {
+        if self.clerk.count_folder_look().is_struck() {
+            return Err(VolumeFault::Failed);
+        }
+        match self.folder.list(alloc) {
+            Ok(listing) => Ok(listing),
+            Err(_) => Err(VolumeFault::Memory),
+        }
+    }
+
+    fn read_file(&mut self, serial: u64, at: u32, out: &mut [u8]) -> Result<(), Failed> {
+        if self.clerk.count_folder_look().is_struck() {
+            return Err(Failed);
+        }
+        self.folder.read(serial, at, out);
+        Ok(())
+    }
+
+    fn put(&mut self, alloc: Global, name: &Text, bytes: &[u8]) -> Result<u64, VolumeFault> {
+        let strike = self.clerk.count_folder_change();
+        let is_full = self.folder.is_full(name, bytes.len() as u32);
+        if strike.is_struck() {
+            if keeps_change(strike) && !is_full {
+                let _ = self.folder.put(alloc, name, bytes);
+            }
+            return Err(VolumeFault::Failed);
+        }
+        if is_full {
+            return Err(VolumeFault::Full);
+        }
+        match self.folder.put(alloc, name, bytes) {
+            Ok(serial) => Ok(serial),
+            Err(_) => Err(VolumeFault::Memory),
+        }
+    }
+
+    fn remove(&mut self, serial: u64) -> Result<(), Failed> {
+        let strike = self.clerk.count_folder_change();
+        if strike.is_struck() {
+            if keeps_change(strike) {
+                self.folder.remove(serial);
+            }
+            return Err(Failed);
+        }
+        self.folder.remove(serial);
+        Ok(())
+    }
+}
+
+/// Whether a change of the folder that this strikes is done all the same: where power is cut and the
+/// choice is not `Old`.
+fn keeps_change(strike: Strike) -> bool
+    ensures { result ≡ keeps_change strike }
+{
+    match strike {
+        Strike::Cut(choice) => choice != Choice::Old,
+        Strike::Passes | Strike::Off | Strike::Fault => false,
+    }
+}
