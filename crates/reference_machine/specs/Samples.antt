@@ -70,7 +70,7 @@ second_controller = record {
 
 -- a board of these, with result variables of the numbers 0 to 2
 abbrev pub three_devices : BoardValue
-three_devices = record { bank = 65536; result_max = 2; digests = []; devices = system ∷ first_controller ∷ second_controller ∷ [] }
+three_devices = record { bank = 65536; store = 2; two_banks = false; result_max = 2; digests = []; devices = system ∷ first_controller ∷ second_controller ∷ [] }
 
 -- the header of an item for type 2: its version, index and instance
 abbrev pub head_of : ℕ → ℕ → ℕ → ItemHead

@@ -39,7 +39,7 @@ fn board(alloc: Global, rt: &impl Abort) -> Board {
     assert!(rt; !devices.has_triple(&device.type_id, device.index, device.instance));
     assert!(rt; devices.push(device).is_ok());
     assert_eq!(rt; devices.as_slice().len(), 1);
-    Board::new(65_536, 15, Items::new(alloc), devices)
+    Board::new(65_536, 2, false, 15, Items::new(alloc), devices)
 }
 
 fn line(

@@ -174,7 +174,7 @@ fn board(alloc: Global, rt: &impl Abort) -> Board {
         assert!(rt; digests.push(Digest { bytes }).is_ok());
     }
     assert!(rt; digests.len() <= 3);
-    Board::new(65_536, 15, digests, devices)
+    Board::new(65_536, 2, false, 15, digests, devices)
 }
 
 #[test]
