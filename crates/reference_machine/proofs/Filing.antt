@@ -42,14 +42,17 @@ has_all P (m ∷ ms) n all h = by_test (m == n) refl (has_all P ms n all.1) h
     by_test false e later k = later k
 
 -- and one that stays in what is kept of them stands there too
-pub has_filter : (keep : ℕ → Bool) (ns : List ℕ) (n : ℕ) → keep n ≡ true → has ns n ≡ true → has (filter keep ns) n ≡ true
+pub has_filter : (keep : ℕ → Bool) (ns : List ℕ) (n : ℕ) → keep n ≡ true → has ns n ≡ true
+    → has (filter keep ns) n ≡ true
 has_filter keep [] n is h = h
 has_filter keep (m ∷ ms) n is h = by_test (m == n) refl (has_filter keep ms n is) h
   where
-    by_test : (b : Bool) → (m == n) ≡ b → (has ms n ≡ true → has (filter keep ms) n ≡ true) → (b || has ms n) ≡ true → has (filter keep (m ∷ ms)) n ≡ true
+    by_test : (b : Bool) → (m == n) ≡ b → (has ms n ≡ true → has (filter keep ms) n ≡ true)
+        → (b || has ms n) ≡ true → has (filter keep (m ∷ ms)) n ≡ true
     by_test true e later t =
         let passes : keep m ≡ true = ap keep (same_of m n e) ∙ is in
-        ap (λ b. has (cond b (m ∷ filter keep ms) (filter keep ms)) n) passes ∙ ap (λ b. b || has (filter keep ms) n) e
+        ap (λ b. has (cond b (m ∷ filter keep ms) (filter keep ms)) n) passes
+        ∙ ap (λ b. b || has (filter keep ms) n) e
     by_test false e later t =
         elim (keep m) as (λ b. has (cond b (m ∷ filter keep ms) (filter keep ms)) n ≡ true) [
           | true ↦ or_right (m == n) _ (later t)
@@ -69,71 +72,100 @@ has_last [] n = or_left (n == n) false (same n)
 has_last (k ∷ ks) n = or_right (k == n) _ (has_last ks n)
 
 -- what is kept stays when one more serial is kept
-pub kept_stays : (in_progress : List ℕ) (key : UnitKey) (s : ℕ) → has in_progress s ≡ true → has (progress_with in_progress key) s ≡ true
+pub kept_stays : (in_progress : List ℕ) (key : UnitKey) (s : ℕ) → has in_progress s ≡ true
+    → has (progress_with in_progress key) s ≡ true
 kept_stays in_progress key s h =
-    elim (key.ticket.route == 1) as (λ r. has (cond r (cond (has in_progress key.ticket.serial) in_progress (in_progress ++ key.ticket.serial ∷ [])) in_progress) s ≡ true) [
+    elim (key.ticket.route == 1) as
+    (λ r. has (cond r
+    (cond (has in_progress key.ticket.serial) in_progress
+    (in_progress ++ key.ticket.serial ∷ [])) in_progress) s ≡ true) [
       | true ↦
-          elim (has in_progress key.ticket.serial) as (λ b. has (cond b in_progress (in_progress ++ key.ticket.serial ∷ [])) s ≡ true) [
+          elim (has in_progress key.ticket.serial) as
+          (λ b. has (cond b in_progress (in_progress ++ key.ticket.serial ∷ [])) s ≡ true) [
             | true ↦ h
             | false ↦ has_front in_progress key.ticket.serial s h
           ]
       | false ↦ h
     ]
 
-one_kept : (in_progress : List ℕ) (n : ℕ) → has (cond (has in_progress n) in_progress (in_progress ++ n ∷ [])) n ≡ true
+one_kept : (in_progress : List ℕ) (n : ℕ)
+    → has (cond (has in_progress n) in_progress (in_progress ++ n ∷ [])) n ≡ true
 one_kept in_progress n = by_test (has in_progress n) refl
   where
-    by_test : (b : Bool) → has in_progress n ≡ b → has (cond b in_progress (in_progress ++ n ∷ [])) n ≡ true
+    by_test : (b : Bool) → has in_progress n ≡ b
+        → has (cond b in_progress (in_progress ++ n ∷ [])) n ≡ true
     by_test true e = e
     by_test false e = has_last in_progress n
 
 -- and that of a unit of a file is kept
-pub unit_kept : (in_progress : List ℕ) (key : UnitKey) (s : ℕ) → is_of 1 s key ≡ true → has (progress_with in_progress key) s ≡ true
+pub unit_kept : (in_progress : List ℕ) (key : UnitKey) (s : ℕ) → is_of 1 s key ≡ true
+    → has (progress_with in_progress key) s ≡ true
 unit_kept in_progress key s h =
-    let route : (key.ticket.route == 1) ≡ true = both_left (key.ticket.route == 1) (key.ticket.serial == s) h in
-    let serial : key.ticket.serial ≡ s = same_of key.ticket.serial s (both_right (key.ticket.route == 1) (key.ticket.serial == s) h) in
-    let kept_all : List ℕ = cond (has in_progress key.ticket.serial) in_progress (in_progress ++ key.ticket.serial ∷ []) in
-    let at : has (cond (key.ticket.route == 1) kept_all in_progress) key.ticket.serial ≡ true = ap (λ r. has (cond r kept_all in_progress) key.ticket.serial) route ∙ one_kept in_progress key.ticket.serial in
+    let route : (key.ticket.route == 1) ≡ true =
+    both_left (key.ticket.route == 1) (key.ticket.serial == s) h in
+    let serial : key.ticket.serial ≡ s =
+    same_of key.ticket.serial s
+    (both_right (key.ticket.route == 1) (key.ticket.serial == s) h) in
+    let kept_all : List ℕ =
+    cond (has in_progress key.ticket.serial) in_progress
+    (in_progress ++ key.ticket.serial ∷ []) in
+    let at : has (cond (key.ticket.route == 1) kept_all in_progress) key.ticket.serial ≡ true =
+    ap (λ r. has (cond r kept_all in_progress) key.ticket.serial) route
+    ∙ one_kept in_progress key.ticket.serial in
     subst (λ i. has (cond (key.ticket.route == 1) kept_all in_progress) i ≡ true) serial at
 
 -- one more element
-filter_more : {X : Type 0} (p : X → Bool) (xs : List X) (x : X) → length (filter p (xs ++ x ∷ [])) ≡ length (filter p xs) + cond (p x) 1 0
-filter_more p [] x = elim (p x) as (λ b. length (cond b (x ∷ []) []) ≡ 0 + cond b 1 0) [ true ↦ refl | false ↦ refl ]
+filter_more : {X : Type 0} (p : X → Bool) (xs : List X) (x : X)
+    → length (filter p (xs ++ x ∷ [])) ≡ length (filter p xs) + cond (p x) 1 0
+filter_more p [] x =
+    elim (p x) as (λ b. length (cond b (x ∷ []) []) ≡ 0 + cond b 1 0) [ true ↦ refl | false ↦ refl ]
 filter_more p (y ∷ ys) x =
-    let h : length (filter p (ys ++ x ∷ [])) ≡ length (filter p ys) + cond (p x) 1 0 = filter_more p ys x in
-    elim (p y) as (λ b. length (cond b (y ∷ filter p (ys ++ x ∷ [])) (filter p (ys ++ x ∷ []))) ≡ length (cond b (y ∷ filter p ys) (filter p ys)) + cond (p x) 1 0) [
+    let h : length (filter p (ys ++ x ∷ [])) ≡ length (filter p ys) + cond (p x) 1 0 =
+    filter_more p ys x in
+    elim (p y) as
+    (λ b. length (cond b (y ∷ filter p (ys ++ x ∷ [])) (filter p (ys ++ x ∷ [])))
+    ≡ length (cond b (y ∷ filter p ys) (filter p ys)) + cond (p x) 1 0) [
       | true ↦ omega arith
       | false ↦ h
     ]
 
-pub spent_more : (list : List Element) (e : Element) (s : ℕ) → spent (list ++ e ∷ []) s ≡ spent list s + cond (is_of 1 s e.key && is_closed e) 1 0
+pub spent_more : (list : List Element) (e : Element) (s : ℕ)
+    → spent (list ++ e ∷ []) s ≡ spent list s + cond (is_of 1 s e.key && is_closed e) 1 0
 spent_more list e s = filter_more (λ x. is_of 1 s x.key && is_closed x) list e
 
 -- nothing is spent of a file, or its serial is kept
 abbrev pub IsKept : List Element → List ℕ → ℕ → Type 0
 IsKept list in_progress s = 0 < spent list s → has in_progress s ≡ true
 
-pub kept_more : (list : List Element) (in_progress : List ℕ) (e : Element) (s : ℕ) → IsKept list in_progress s → IsKept (list ++ e ∷ []) (progress_with in_progress e.key) s
+pub kept_more : (list : List Element) (in_progress : List ℕ) (e : Element) (s : ℕ)
+    → IsKept list in_progress s → IsKept (list ++ e ∷ []) (progress_with in_progress e.key) s
 kept_more list in_progress e s h lt = by_test (is_of 1 s e.key) refl
   where
     by_test : (b : Bool) → is_of 1 s e.key ≡ b → has (progress_with in_progress e.key) s ≡ true
     by_test true k = unit_kept in_progress e.key s k
     by_test false k =
-        let more : spent (list ++ e ∷ []) s ≡ spent list s + cond (is_of 1 s e.key && is_closed e) 1 0 = spent_more list e s in
-        let none : cond {A = ℕ} (is_of 1 s e.key && is_closed e) 1 0 ≡ 0 = ap (λ b. cond {A = ℕ} (b && is_closed e) 1 0) k in
+        let more : spent (list ++ e ∷ []) s
+        ≡ spent list s + cond (is_of 1 s e.key && is_closed e) 1 0 = spent_more list e s in
+        let none : cond {A = ℕ} (is_of 1 s e.key && is_closed e) 1 0 ≡ 0 =
+        ap (λ b. cond {A = ℕ} (b && is_closed e) 1 0) k in
         let before : 0 < spent list s = omega arith in
         kept_stays in_progress e.key s (h before)
 
-pub kept_front : (list : List Element) (in_progress : List ℕ) (e : Element) (s : ℕ) → IsKept (list ++ e ∷ []) in_progress s → IsKept list in_progress s
+pub kept_front : (list : List Element) (in_progress : List ℕ) (e : Element) (s : ℕ)
+    → IsKept (list ++ e ∷ []) in_progress s → IsKept list in_progress s
 kept_front list in_progress e s h lt =
-    let more : spent (list ++ e ∷ []) s ≡ spent list s + cond (is_of 1 s e.key && is_closed e) 1 0 = spent_more list e s in
+    let more : spent (list ++ e ∷ []) s ≡ spent list s + cond (is_of 1 s e.key && is_closed e) 1 0 =
+    spent_more list e s in
     let later : 0 < spent (list ++ e ∷ []) s = omega arith in
     h later
 
-pub kept_open : (list : List Element) (in_progress : List ℕ) (e : Element) (s : ℕ) → is_open e ≡ true → IsKept list in_progress s → IsKept (list ++ e ∷ []) in_progress s
+pub kept_open : (list : List Element) (in_progress : List ℕ) (e : Element) (s : ℕ)
+    → is_open e ≡ true → IsKept list in_progress s → IsKept (list ++ e ∷ []) in_progress s
 kept_open list in_progress e s is h lt =
-    let more : spent (list ++ e ∷ []) s ≡ spent list s + cond (is_of 1 s e.key && is_closed e) 1 0 = spent_more list e s in
-    let none : cond {A = ℕ} (is_of 1 s e.key && is_closed e) 1 0 ≡ 0 = ap (λ b. cond {A = ℕ} (is_of 1 s e.key && not b) 1 0) is ∙ never (is_of 1 s e.key) in
+    let more : spent (list ++ e ∷ []) s ≡ spent list s + cond (is_of 1 s e.key && is_closed e) 1 0 =
+    spent_more list e s in
+    let none : cond {A = ℕ} (is_of 1 s e.key && is_closed e) 1 0 ≡ 0 =
+    ap (λ b. cond {A = ℕ} (is_of 1 s e.key && not b) 1 0) is ∙ never (is_of 1 s e.key) in
     let before : 0 < spent list s = omega arith in
     h before
   where
@@ -143,7 +175,9 @@ kept_open list in_progress e s is h lt =
 
 -- a unit is of a delivery by memory up to the last one, or of a file whose serial stands in a list
 abbrev pub IsKnown : ℕ → List ℕ → UnitKey → Type 0
-IsKnown last serials key = ((key.ticket.route ≡ 0) × (key.ticket.serial ≤ last)) ⊎ ((key.ticket.route ≡ 1) × (has serials key.ticket.serial ≡ true))
+IsKnown last serials key =
+    ((key.ticket.route ≡ 0) × (key.ticket.serial ≤ last))
+    ⊎ ((key.ticket.route ≡ 1) × (has serials key.ticket.serial ≡ true))
 
 -- and so is each that is left
 abbrev pub Known : ℕ → List ℕ → List BootTask → Type 0
@@ -155,7 +189,8 @@ Known last serials (Prunes ∷ rest) = Known last serials rest
 Known last serials (Removes serial ∷ rest) = Known last serials rest
 Known last serials (Clears ∷ rest) = Known last serials rest
 
-pub known_append : (last : ℕ) (serials : List ℕ) (xs ys : List BootTask) → Known last serials xs → Known last serials ys → Known last serials (xs ++ ys)
+pub known_append : (last : ℕ) (serials : List ℕ) (xs ys : List BootTask) → Known last serials xs
+    → Known last serials ys → Known last serials (xs ++ ys)
 known_append last serials [] ys a b = b
 known_append last serials (Settles kind end ∷ xs) ys a b = known_append last serials xs ys a b
 known_append last serials (Unstages pair ∷ xs) ys a b = known_append last serials xs ys a b
@@ -164,11 +199,17 @@ known_append last serials (Prunes ∷ xs) ys a b = known_append last serials xs 
 known_append last serials (Removes serial ∷ xs) ys a b = known_append last serials xs ys a b
 known_append last serials (Clears ∷ xs) ys a b = known_append last serials xs ys a b
 
-pub known_units : (last : ℕ) (serials : List ℕ) (r s n : ℕ) (us : List BootUnit) → Numbered r s n us → ((r ≡ 0) × (s ≤ last)) ⊎ ((r ≡ 1) × (has serials s ≡ true)) → Known last serials (map Does us)
+pub known_units : (last : ℕ) (serials : List ℕ) (r s n : ℕ) (us : List BootUnit) → Numbered r s n us
+    → ((r ≡ 0) × (s ≤ last)) ⊎ ((r ≡ 1) × (has serials s ≡ true)) → Known last serials (map Does us)
 known_units last serials r s n [] h w = tt
 known_units last serials r s n (u ∷ us) h w =
-    let route : ((u.key.ticket.route ≡ 0) × (s ≤ last)) ⊎ ((u.key.ticket.route ≡ 1) × (has serials s ≡ true)) = subst (λ i. ((i ≡ 0) × (s ≤ last)) ⊎ ((i ≡ 1) × (has serials s ≡ true))) (sym h.0.route) w in
-    let here : IsKnown last serials u.key = subst (λ i. ((u.key.ticket.route ≡ 0) × (i ≤ last)) ⊎ ((u.key.ticket.route ≡ 1) × (has serials i ≡ true))) (sym h.0.serial) route in
+    let route : ((u.key.ticket.route ≡ 0) × (s ≤ last))
+    ⊎ ((u.key.ticket.route ≡ 1) × (has serials s ≡ true)) =
+    subst (λ i. ((i ≡ 0) × (s ≤ last)) ⊎ ((i ≡ 1) × (has serials s ≡ true)))
+    (sym h.0.route) w in
+    let here : IsKnown last serials u.key =
+    subst (λ i. ((u.key.ticket.route ≡ 0) × (i ≤ last))
+    ⊎ ((u.key.ticket.route ≡ 1) × (has serials i ≡ true))) (sym h.0.serial) route in
     (here, known_units last serials r s (n + 1) us h.1 w)
 
 -- no file is left where the request for the files is cleared
@@ -181,6 +222,7 @@ Empties files (Prunes ∷ rest) = Empties files rest
 Empties files (Removes serial ∷ rest) = Empties (filter (λ x. not (x.serial == serial)) files) rest
 Empties files (Clears ∷ rest) = (files ≡ []) × Empties files rest
 
-pub empties_does : (us : List BootUnit) (files : List File) (rest : List BootTask) → Empties files rest → Empties files (map Does us ++ rest)
+pub empties_does : (us : List BootUnit) (files : List File) (rest : List BootTask)
+    → Empties files rest → Empties files (map Does us ++ rest)
 empties_does [] files rest e = e
 empties_does (u ∷ us) files rest e = empties_does us files rest e

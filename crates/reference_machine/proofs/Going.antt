@@ -1,4 +1,5 @@
--- A boot under way: nothing is open and no settlement is left, or the last element is open and is settled next.
+-- A boot under way: nothing is open and no settlement is left, or the last element is open and is
+-- settled next.
 use Rattle.std.proofs.Common.{◌≡◌, ℕ, zero, suc, ◌≤◌, ◌⊎◌, inl, inr, Bool, true, false, cond, List, [], ◌∷◌, ◌++◌, length, map, flat_map, find, refl, sym, ap, ◌∙◌, subst, Option, Some, None, nat_le, drop, T}
 use lib.Dec.{leb→le}
 use Rattle.reference_machine.specs.declared.unit.End.{End}
@@ -52,7 +53,9 @@ le_of : (a b : ℕ) → nat_le a b ≡ true → a ≤ b
 le_of a b h = leb→le a b (subst T (sym h) tt)
 
 -- a try that is claimed passed the check of its version, the fourth
-fourth_passed : (a b c d e : Bool) (i j k l m : ℕ) → course_of_try (first_failed ((a, i) ∷ (b, j) ∷ (c, k) ∷ (d, l) ∷ (e, m) ∷ [])) ≡ Claim → d ≡ true
+fourth_passed : (a b c d e : Bool) (i j k l m : ℕ)
+    → course_of_try (first_failed ((a, i) ∷ (b, j) ∷ (c, k) ∷ (d, l) ∷ (e, m) ∷ [])) ≡ Claim
+    → d ≡ true
 fourth_passed true true true true e i j k l m h = refl
 fourth_passed true true true false e i j k l m h = cc
 fourth_passed true true false d e i j k l m h = cc
@@ -60,31 +63,45 @@ fourth_passed true false c d e i j k l m h = cc
 fourth_passed false b c d e i j k l m h = cc
 
 -- a claim is made above the floor in force
-claim_above : (f : Formats) (m : Machine) (u : BootUnit) (k : Kind) → course_of f m u k ≡ Claim → floor_of m.board m.list u.key.device ≤ (element_with u Open (parts_tried f u k)).version
+claim_above : (f : Formats) (m : Machine) (u : BootUnit) (k : Kind) → course_of f m u k ≡ Claim
+    → floor_of m.board m.list u.key.device ≤ (element_with u Open (parts_tried f u k)).version
 claim_above f m u Try h = by_parts (f.parts u.image u.head.support) h
   where
-    by_parts : (p : Option Parts) → course_of_try (refusal_with f m u p) ≡ Claim → floor_of m.board m.list u.key.device ≤ (element_with u Open p).version
+    by_parts : (p : Option Parts) → course_of_try (refusal_with f m u p) ≡ Claim
+        → floor_of m.board m.list u.key.device ≤ (element_with u Open p).version
     by_parts None k = cc
-    by_parts (Some p) k = le_of _ _ (fourth_passed true (is_admitted m.board u.image) (nat_le (length p.payload) (capacity_of m.board u.key.device))
-        (nat_le (floor_of m.board m.list u.key.device) p.version) (keeps_dependencies f m u.key.device p) 4 5 2 3 8 k)
+    by_parts (Some p) k =
+        le_of _ _ (fourth_passed true (is_admitted m.board u.image)
+        (nat_le (length p.payload) (capacity_of m.board u.key.device))
+        (nat_le (floor_of m.board m.list u.key.device) p.version)
+        (keeps_dependencies f m u.key.device p) 4 5 2 3 8 k)
 claim_above f m u Heal h = cc
 claim_above f m u Skip h = cc
 claim_above f m u NoTarget h = cc
 claim_above f m u Bad h = cc
 
 -- a unit that is closed at once is refused or tries nothing, so it is no attempt
-close_quiet : (f : Formats) (m : Machine) (u : BootUnit) (k : Kind) (end : Option End) → course_of f m u k ≡ Close end → (now : _) → is_attempted (Closed end now) ≡ false
+close_quiet : (f : Formats) (m : Machine) (u : BootUnit) (k : Kind) (end : Option End)
+    → course_of f m u k ≡ Close end → (now : _) → is_attempted (Closed end now) ≡ false
 close_quiet f m u Try end h now = by_refusal (refusal f m u) h
   where
-    by_refusal : (r : Option ℕ) → course_of_try r ≡ Close end → is_attempted (Closed end now) ≡ false
+    by_refusal : (r : Option ℕ) → course_of_try r ≡ Close end
+        → is_attempted (Closed end now) ≡ false
     by_refusal None k = cc
-    by_refusal (Some status) k = let e : Some (Refused status) ≡ end = cc in ap (λ x. is_attempted (Closed x now)) (sym e)
-close_quiet f m u Heal end h now = let e : None ≡ end = cc in ap (λ x. is_attempted (Closed x now)) (sym e)
-close_quiet f m u Skip end h now = let e : None ≡ end = cc in ap (λ x. is_attempted (Closed x now)) (sym e)
-close_quiet f m u NoTarget end h now = let e : None ≡ end = cc in ap (λ x. is_attempted (Closed x now)) (sym e)
-close_quiet f m u Bad end h now = let e : None ≡ end = cc in ap (λ x. is_attempted (Closed x now)) (sym e)
+    by_refusal (Some status) k = let e : Some (Refused status) ≡ end =
+        cc in ap (λ x. is_attempted (Closed x now)) (sym e)
+close_quiet f m u Heal end h now = let e : None ≡ end =
+    cc in ap (λ x. is_attempted (Closed x now)) (sym e)
+close_quiet f m u Skip end h now = let e : None ≡ end =
+    cc in ap (λ x. is_attempted (Closed x now)) (sym e)
+close_quiet f m u NoTarget end h now = let e : None ≡ end =
+    cc in ap (λ x. is_attempted (Closed x now)) (sym e)
+close_quiet f m u Bad end h now = let e : None ≡ end =
+    cc in ap (λ x. is_attempted (Closed x now)) (sym e)
 
-unit_going : (f : Formats) (b : BootState) (u : BootUnit) (rest : List BootTask) (c : Course) → course_of f b.machine u u.kind ≡ c → Rests b.machine.board b.machine.list → NoSettles rest → Going (after_unit f b u rest c).machine (after_unit f b u rest c).left
+unit_going : (f : Formats) (b : BootState) (u : BootUnit) (rest : List BootTask) (c : Course)
+    → course_of f b.machine u u.kind ≡ c → Rests b.machine.board b.machine.list → NoSettles rest
+    → Going (after_unit f b u rest c).machine (after_unit f b u rest c).left
 unit_going f b u rest Claim h r n =
     inr (
       record {
@@ -93,7 +110,8 @@ unit_going f b u rest Claim h r n =
         parts = refl;
         none = r.none;
         is_last = refl;
-        above = above_more b.machine.board [] b.machine.list (element_of f u Open) r.above (λ _. claim_above f b.machine u u.kind h);
+        above = above_more b.machine.board [] b.machine.list (element_of f u Open) r.above
+            (λ _. claim_above f b.machine u u.kind h);
       },
       (tt, n),
     )
@@ -103,25 +121,31 @@ unit_going f b u rest (Close end) h r n =
     inl (
       record {
         none = none_more b.machine.list e r.none refl;
-        above = above_more b.machine.board [] b.machine.list e r.above (λ k. absurd (let x : true ≡ false = sym k ∙ quiet in cc));
+        above = above_more b.machine.board [] b.machine.list e r.above
+            (λ k. absurd (let x : true ≡ false = sym k ∙ quiet in cc));
       },
       n,
     )
 
-settle_going : (m : Machine) (end : End) (rest : List BootTask) → IsHeldEnd end → Pends m.board m.list → NoSettles rest → Going (settled m end) rest
+settle_going : (m : Machine) (end : End) (rest : List BootTask) → IsHeldEnd end
+    → Pends m.board m.list → NoSettles rest → Going (settled m end) rest
 settle_going m end rest held p n =
-    let found : find is_open m.list ≡ Some p.last = ap (find is_open) p.parts ∙ find_last p.front p.last p.none p.is_last in
+    let found : find is_open m.list ≡ Some p.last =
+    ap (find is_open) p.parts ∙ find_last p.front p.last p.none p.is_last in
     let is : settled m end ≡ settled_with m end (Some p.last) = ap (settled_with m end) found in
     subst (λ x. Going x rest) (sym is) (inl (settled_list m.board m.list end m.now held p, n))
 
 -- each step keeps it
-pub after_going : (f : Formats) (b : BootState) (left : List BootTask) → Going b.machine left → b.left ≡ left → Going (after f b left).machine (after f b left).left
+pub after_going : (f : Formats) (b : BootState) (left : List BootTask) → Going b.machine left
+    → b.left ≡ left → Going (after f b left).machine (after f b left).left
 after_going f b [] g e = subst (Going b.machine) (sym e) g
 after_going f b (Settles kind end ∷ rest) (inl g) e = absurd g.1
-after_going f b (Settles kind end ∷ rest) (inr g) e = settle_going b.machine end rest g.1.0 g.0 g.1.1
+after_going f b (Settles kind end ∷ rest) (inr g) e =
+    settle_going b.machine end rest g.1.0 g.0 g.1.1
 after_going f b (Unstages pair ∷ rest) (inl g) e = inl g
 after_going f b (Unstages pair ∷ rest) (inr g) e = absurd g.1
-after_going f b (Does u ∷ rest) (inl g) e = unit_going f b u rest (course_of f b.machine u u.kind) refl g.0 g.1
+after_going f b (Does u ∷ rest) (inl g) e =
+    unit_going f b u rest (course_of f b.machine u u.kind) refl g.0 g.1
 after_going f b (Does u ∷ rest) (inr g) e = absurd g.1
 after_going f b (Prunes ∷ rest) (inl g) e = inl g
 after_going f b (Prunes ∷ rest) (inr g) e = absurd g.1
@@ -130,9 +154,11 @@ after_going f b (Removes serial ∷ rest) (inr g) e = absurd g.1
 after_going f b (Clears ∷ rest) (inl g) e = inl g
 after_going f b (Clears ∷ rest) (inr g) e = absurd g.1
 
-pub steps_going : (f : Formats) (n : ℕ) (b : BootState) → Going b.machine b.left → Going (after_steps f n b).machine (after_steps f n b).left
+pub steps_going : (f : Formats) (n : ℕ) (b : BootState) → Going b.machine b.left
+    → Going (after_steps f n b).machine (after_steps f n b).left
 steps_going f zero b g = g
-steps_going f (suc n) b g = after_going f (after_steps f n b) (after_steps f n b).left (steps_going f n b g) refl
+steps_going f (suc n) b g =
+    after_going f (after_steps f n b) (after_steps f n b).left (steps_going f n b g) refl
 
 -- the work of a boot settles nothing but what was open before
 settles_append : (xs ys : List BootTask) → NoSettles xs → NoSettles ys → NoSettles (xs ++ ys)
@@ -148,7 +174,8 @@ settles_does : (us : List BootUnit) → NoSettles (map Does us)
 settles_does [] = tt
 settles_does (u ∷ us) = settles_does us
 
-settles_each : {X : Type 0} (g : X → List BootTask) → ((x : X) → NoSettles (g x)) → (xs : List X) → NoSettles (flat_map g xs)
+settles_each : {X : Type 0} (g : X → List BootTask) → ((x : X) → NoSettles (g x)) → (xs : List X)
+    → NoSettles (flat_map g xs)
 settles_each g h [] = tt
 settles_each g h (x ∷ xs) = settles_append (g x) (flat_map g xs) (h x) (settles_each g h xs)
 
@@ -166,28 +193,40 @@ settles_folder f m = by_bit m.is_signalled
     files = flat_map (file_tasks f m) (files_in_order m)
 
     of_file : (x : File) → NoSettles (file_tasks f m x)
-    of_file x = settles_append (map Does (drop (spent m.list x.serial) (units f (file_delivery x) m.board))) (Removes x.serial ∷ []) (settles_does (drop (spent m.list x.serial) (units f (file_delivery x) m.board))) tt
+    of_file x = settles_append
+        (map Does (drop (spent m.list x.serial) (units f (file_delivery x) m.board)))
+        (Removes x.serial ∷ [])
+        (settles_does (drop (spent m.list x.serial) (units f (file_delivery x) m.board))) tt
 
     none : NoSettles files
     none = settles_each (file_tasks f m) of_file (files_in_order m)
 
     by_bit : (t : Bool) → NoSettles (cond t (prune_tasks m ++ files ++ Clears ∷ []) [])
-    by_bit true = settles_append (prune_tasks m ++ files) (Clears ∷ []) (settles_append (prune_tasks m) files (settles_prune m) none) tt
+    by_bit true =
+        settles_append (prune_tasks m ++ files) (Clears ∷ [])
+        (settles_append (prune_tasks m) files (settles_prune m) none) tt
     by_bit false = tt
 
 settles_work : (f : Formats) (m : Machine) → NoSettles (staged_tasks f m ++ folder_tasks f m)
-settles_work f m = settles_append (staged_tasks f m) (folder_tasks f m) (settles_each (pair_tasks f m) (λ p. settles_does (units f (memory_delivery f m p) m.board)) (staged_in_order m)) (settles_folder f m)
+settles_work f m =
+    settles_append (staged_tasks f m) (folder_tasks f m)
+    (settles_each (pair_tasks f m) (λ p. settles_does (units f (memory_delivery f m p) m.board))
+    (staged_in_order m)) (settles_folder f m)
 
 -- a boot begins so
-pub start_going : (f : Formats) (m : Machine) (h : End) → IsHeldEnd h → Sound m → Going (boot_start f m h).machine (boot_start f m h).left
+pub start_going : (f : Formats) (m : Machine) (h : End) → IsHeldEnd h → Sound m
+    → Going (boot_start f m h).machine (boot_start f m h).left
 start_going f m h held (inl r) =
-    let is : boot_tasks f m h ≡ tasks_with f m h None = ap (tasks_with f m h) (find_none m.list r.none) in
+    let is : boot_tasks f m h ≡ tasks_with f m h None =
+    ap (tasks_with f m h) (find_none m.list r.none) in
     inl (r, subst NoSettles (sym is) (settles_work f m))
 start_going f m h held (inr p) =
-    let found : find is_open m.list ≡ Some p.last = ap (find is_open) p.parts ∙ find_last p.front p.last p.none p.is_last in
+    let found : find is_open m.list ≡ Some p.last =
+    ap (find is_open) p.parts ∙ find_last p.front p.last p.none p.is_last in
     let is : boot_tasks f m h ≡ tasks_with f m h (Some p.last) = ap (tasks_with f m h) found in
     inr (p, subst IsSettling (sym is) (held, settles_work f (settled m h)))
 
 -- the machine after any steps of a boot
-pub boot_going : (f : Formats) (m : Machine) (h : End) (j : ℕ) → IsHeldEnd h → Sound m → Going (boot_at f m h j).machine (boot_at f m h j).left
+pub boot_going : (f : Formats) (m : Machine) (h : End) (j : ℕ) → IsHeldEnd h → Sound m
+    → Going (boot_at f m h j).machine (boot_at f m h j).left
 boot_going f m h j held s = steps_going f j (boot_start f m h) (start_going f m h held s)

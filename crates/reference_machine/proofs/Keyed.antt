@@ -24,15 +24,21 @@ use Rattle.reference_machine.proofs.Ordered.{all_ordered, distinct_ordered, turn
 pub record Keyed (m : Machine) : Type 0 where
   pub gapless : Gapless [] (keys_of m.list)
   pub waiting : AllByRecursion (λ (p : StagedPair). count 0 p.serial (keys_of m.list) ≡ 0) m.staged
-  pub below : AllByRecursion (λ (k : UnitKey). (k.ticket.route == 0) ≡ true → k.ticket.serial ≤ m.last_staged) (keys_of m.list)
+  pub below : AllByRecursion
+      (λ (k : UnitKey). (k.ticket.route == 0) ≡ true → k.ticket.serial ≤ m.last_staged)
+      (keys_of m.list)
 
 -- the units by memory that are left are of deliveries that wait no longer
 abbrev pub Waits : ℕ → List StagedPair → List BootTask → Type 0
 Waits last staged [] = Unit {0}
 Waits last staged (Settles kind end ∷ rest) = Waits last staged rest
-Waits last staged (Unstages p ∷ rest) = Waits last (filter (λ q. not (q.serial == p.serial)) staged) rest
+Waits last staged (Unstages p ∷ rest) =
+    Waits last (filter (λ q. not (q.serial == p.serial)) staged) rest
 Waits last staged (Does u ∷ rest) =
-    ((u.key.ticket.route == 0) ≡ true → (u.key.ticket.serial ≤ last) × AllByRecursion (λ (q : StagedPair). (q.serial == u.key.ticket.serial) ≡ false) staged) × Waits last staged rest
+    ((u.key.ticket.route == 0) ≡ true
+    → (u.key.ticket.serial ≤ last)
+    × AllByRecursion (λ (q : StagedPair). (q.serial == u.key.ticket.serial) ≡ false) staged)
+    × Waits last staged rest
 Waits last staged (Prunes ∷ rest) = Waits last staged rest
 Waits last staged (Removes serial ∷ rest) = Waits last staged rest
 Waits last staged (Clears ∷ rest) = Waits last staged rest
@@ -43,31 +49,45 @@ pub record Runs (m : Machine) (left : List BootTask) : Type 0 where
   pub waits : Waits m.last_staged m.staged left
 
 -- the same keys, staged deliveries and last serial
-runs_same : (m n : Machine) (left : List BootTask) → keys_of n.list ≡ keys_of m.list → n.staged ≡ m.staged → n.last_staged ≡ m.last_staged → Runs m left → Runs n left
+runs_same : (m n : Machine) (left : List BootTask) → keys_of n.list ≡ keys_of m.list
+    → n.staged ≡ m.staged → n.last_staged ≡ m.last_staged → Runs m left → Runs n left
 runs_same m n left ek es el r =
     let on_last : (l : ℕ) → List StagedPair → List UnitKey → Type 0 = λ l ss ks.
     Gapless [] ks × AllByRecursion (λ (p : StagedPair). count 0 p.serial ks ≡ 0) ss
-    × AllByRecursion (λ (k : UnitKey). (k.ticket.route == 0) ≡ true → k.ticket.serial ≤ l) ks × Ahead ks left × Waits l ss left in
-    let start : on_last m.last_staged m.staged (keys_of m.list) = (r.keyed.gapless, r.keyed.waiting, r.keyed.below, r.ahead, r.waits) in
-    let a : on_last m.last_staged m.staged (keys_of n.list) = subst (on_last m.last_staged m.staged) (sym ek) start in
-    let b : on_last m.last_staged n.staged (keys_of n.list) = subst (λ ss. on_last m.last_staged ss (keys_of n.list)) (sym es) a in
-    let c : on_last n.last_staged n.staged (keys_of n.list) = subst (λ l. on_last l n.staged (keys_of n.list)) (sym el) b in
-    record { keyed = record { gapless = c.0; waiting = c.1; below = c.2 }; ahead = c.3; waits = c.4 }
+    × AllByRecursion (λ (k : UnitKey). (k.ticket.route == 0) ≡ true → k.ticket.serial ≤ l) ks
+    × Ahead ks left × Waits l ss left in
+    let start : on_last m.last_staged m.staged (keys_of m.list) =
+    (r.keyed.gapless, r.keyed.waiting, r.keyed.below, r.ahead, r.waits) in
+    let a : on_last m.last_staged m.staged (keys_of n.list) =
+    subst (on_last m.last_staged m.staged) (sym ek) start in
+    let b : on_last m.last_staged n.staged (keys_of n.list) =
+    subst (λ ss. on_last m.last_staged ss (keys_of n.list)) (sym es) a in
+    let c : on_last n.last_staged n.staged (keys_of n.list) =
+    subst (λ l. on_last l n.staged (keys_of n.list)) (sym el) b in
+    record {
+      keyed = record { gapless = c.0; waiting = c.1; below = c.2 };
+      ahead = c.3;
+      waits = c.4;
+    }
 
-settled_keys : (m : Machine) (end : End) (o : Option Element) → keys_of (settled_with m end o).list ≡ keys_of m.list
+settled_keys : (m : Machine) (end : End) (o : Option Element)
+    → keys_of (settled_with m end o).list ≡ keys_of m.list
 settled_keys m end None = refl
 settled_keys m end (Some e) = keys_closed end m.now m.list
 
-pub settled_staged : (m : Machine) (end : End) (o : Option Element) → (settled_with m end o).staged ≡ m.staged
+pub settled_staged : (m : Machine) (end : End) (o : Option Element)
+    → (settled_with m end o).staged ≡ m.staged
 settled_staged m end None = refl
 settled_staged m end (Some e) = refl
 
-settled_last : (m : Machine) (end : End) (o : Option Element) → (settled_with m end o).last_staged ≡ m.last_staged
+settled_last : (m : Machine) (end : End) (o : Option Element)
+    → (settled_with m end o).last_staged ≡ m.last_staged
 settled_last m end None = refl
 settled_last m end (Some e) = refl
 
 -- a key of a delivery that waits no longer is of none that waits
-not_waiting : (k : UnitKey) (s : ℕ) → ((k.ticket.route == 0) ≡ true → (s == k.ticket.serial) ≡ false) → is_of 0 s k ≡ false
+not_waiting : (k : UnitKey) (s : ℕ)
+    → ((k.ticket.route == 0) ≡ true → (s == k.ticket.serial) ≡ false) → is_of 0 s k ≡ false
 not_waiting k s h = by_route (k.ticket.route == 0) refl
   where
     by_route : (b : Bool) → (k.ticket.route == 0) ≡ b → (b && k.ticket.serial == s) ≡ false
@@ -75,74 +95,116 @@ not_waiting k s h = by_route (k.ticket.route == 0) refl
     by_route false e = refl
 
 -- the machine with one more element
-element_runs : (m n : Machine) (u : BootUnit) (rest : List BootTask) → keys_of n.list ≡ keys_of m.list ++ u.key ∷ [] → n.staged ≡ m.staged → n.last_staged ≡ m.last_staged → Runs m (Does u ∷ rest) → Runs n rest
+element_runs : (m n : Machine) (u : BootUnit) (rest : List BootTask)
+    → keys_of n.list ≡ keys_of m.list ++ u.key ∷ [] → n.staged ≡ m.staged
+    → n.last_staged ≡ m.last_staged → Runs m (Does u ∷ rest) → Runs n rest
 element_runs m n u rest ek es el r =
     let keys : List UnitKey = keys_of m.list in
     let on_last : (l : ℕ) → List StagedPair → List UnitKey → Type 0 = λ l ss ks.
     Gapless [] ks × AllByRecursion (λ (p : StagedPair). count 0 p.serial ks ≡ 0) ss
-    × AllByRecursion (λ (k : UnitKey). (k.ticket.route == 0) ≡ true → k.ticket.serial ≤ l) ks × Ahead ks rest × Waits l ss rest in
+    × AllByRecursion (λ (k : UnitKey). (k.ticket.route == 0) ≡ true → k.ticket.serial ≤ l) ks
+    × Ahead ks rest × Waits l ss rest in
     let more : on_last m.last_staged m.staged (keys ++ u.key ∷ []) = (
       gapless_more [] keys u.key r.keyed.gapless r.ahead.0,
       still_waiting m.staged r.keyed.waiting (λ h. (r.waits.0 h).1),
-      all_more (λ (k : UnitKey). (k.ticket.route == 0) ≡ true → k.ticket.serial ≤ m.last_staged) keys u.key r.keyed.below (λ h. (r.waits.0 h).0),
+      all_more (λ (k : UnitKey). (k.ticket.route == 0) ≡ true
+          → k.ticket.serial ≤ m.last_staged) keys u.key r.keyed.below (λ h. (r.waits.0 h).0),
       r.ahead.1,
       r.waits.1,
     ) in
-    let a : on_last m.last_staged m.staged (keys_of n.list) = subst (on_last m.last_staged m.staged) (sym ek) more in
-    let b : on_last m.last_staged n.staged (keys_of n.list) = subst (λ ss. on_last m.last_staged ss (keys_of n.list)) (sym es) a in
-    let c : on_last n.last_staged n.staged (keys_of n.list) = subst (λ l. on_last l n.staged (keys_of n.list)) (sym el) b in
-    record { keyed = record { gapless = c.0; waiting = c.1; below = c.2 }; ahead = c.3; waits = c.4 }
+    let a : on_last m.last_staged m.staged (keys_of n.list) =
+    subst (on_last m.last_staged m.staged) (sym ek) more in
+    let b : on_last m.last_staged n.staged (keys_of n.list) =
+    subst (λ ss. on_last m.last_staged ss (keys_of n.list)) (sym es) a in
+    let c : on_last n.last_staged n.staged (keys_of n.list) =
+    subst (λ l. on_last l n.staged (keys_of n.list)) (sym el) b in
+    record {
+      keyed = record { gapless = c.0; waiting = c.1; below = c.2 };
+      ahead = c.3;
+      waits = c.4;
+    }
   where
-    still_waiting : (ps : List StagedPair) → AllByRecursion (λ (p : StagedPair). count 0 p.serial (keys_of m.list) ≡ 0) ps
-        → ((u.key.ticket.route == 0) ≡ true → AllByRecursion (λ (q : StagedPair). (q.serial == u.key.ticket.serial) ≡ false) ps)
-        → AllByRecursion (λ (p : StagedPair). count 0 p.serial (keys_of m.list ++ u.key ∷ []) ≡ 0) ps
+    still_waiting : (ps : List StagedPair)
+        → AllByRecursion (λ (p : StagedPair). count 0 p.serial (keys_of m.list) ≡ 0) ps
+        → ((u.key.ticket.route == 0) ≡ true
+        → AllByRecursion (λ (q : StagedPair). (q.serial == u.key.ticket.serial) ≡ false) ps)
+        → AllByRecursion
+        (λ (p : StagedPair). count 0 p.serial (keys_of m.list ++ u.key ∷ []) ≡ 0) ps
     still_waiting [] all h = tt
-    still_waiting (p ∷ ps) all h =
-        (count_other 0 p.serial (keys_of m.list) u.key (not_waiting u.key p.serial (λ e. (h e).0)) ∙ all.0, still_waiting ps all.1 (λ e. (h e).1))
+    still_waiting (p ∷ ps) all h = (
+      count_other 0 p.serial (keys_of m.list) u.key (not_waiting u.key p.serial (λ e. (h e).0))
+          ∙ all.0,
+      still_waiting ps all.1 (λ e. (h e).1),
+    )
 
-unit_runs : (f : Formats) (b : BootState) (u : BootUnit) (rest : List BootTask) (c : Course) → Runs b.machine (Does u ∷ rest) → Runs (after_unit f b u rest c).machine (after_unit f b u rest c).left
+unit_runs : (f : Formats) (b : BootState) (u : BootUnit) (rest : List BootTask) (c : Course)
+    → Runs b.machine (Does u ∷ rest)
+    → Runs (after_unit f b u rest c).machine (after_unit f b u rest c).left
 unit_runs f b u rest Claim r =
-    let n : Runs (after_unit f b u rest Claim).machine rest = element_runs b.machine (after_unit f b u rest Claim).machine u rest (keys_append b.machine.list _) refl refl r in
+    let n : Runs (after_unit f b u rest Claim).machine rest =
+    element_runs b.machine (after_unit f b u rest Claim).machine u rest
+    (keys_append b.machine.list _) refl refl r in
     record { keyed = n.keyed; ahead = n.ahead; waits = n.waits }
-unit_runs f b u rest (Close end) r = element_runs b.machine (after_unit f b u rest (Close end)).machine u rest (keys_append b.machine.list _) refl refl r
+unit_runs f b u rest (Close end) r =
+    element_runs b.machine (after_unit f b u rest (Close end)).machine u rest
+    (keys_append b.machine.list _) refl refl r
 
-after_runs : (f : Formats) (b : BootState) (left : List BootTask) → b.left ≡ left → Runs b.machine left → Runs (after f b left).machine (after f b left).left
+after_runs : (f : Formats) (b : BootState) (left : List BootTask) → b.left ≡ left
+    → Runs b.machine left → Runs (after f b left).machine (after f b left).left
 after_runs f b [] e r = subst (Runs b.machine) (sym e) r
 after_runs f b (Settles kind end ∷ rest) e r =
     let found : Option Element = find is_open b.machine.list in
-    runs_same b.machine (settled b.machine end) rest (settled_keys b.machine end found) (settled_staged b.machine end found) (settled_last b.machine end found)
+    runs_same b.machine (settled b.machine end) rest (settled_keys b.machine end found)
+    (settled_staged b.machine end found) (settled_last b.machine end found)
     (record { keyed = r.keyed; ahead = r.ahead; waits = r.waits })
 after_runs f b (Unstages p ∷ rest) e r = record {
   keyed = record {
     gapless = r.keyed.gapless;
-    waiting = all_kept (λ (q : StagedPair). count 0 q.serial (keys_of b.machine.list) ≡ 0) (λ q. not (q.serial == p.serial)) b.machine.staged r.keyed.waiting;
+    waiting = all_kept (λ (q : StagedPair). count 0 q.serial (keys_of b.machine.list) ≡ 0)
+        (λ q. not (q.serial == p.serial)) b.machine.staged r.keyed.waiting;
     below = r.keyed.below;
   };
   ahead = r.ahead;
   waits = r.waits;
 }
 after_runs f b (Does u ∷ rest) e r = unit_runs f b u rest (course_of f b.machine u u.kind) r
-after_runs f b (Prunes ∷ rest) e r = record { keyed = record { gapless = r.keyed.gapless; waiting = r.keyed.waiting; below = r.keyed.below }; ahead = r.ahead; waits = r.waits }
-after_runs f b (Removes serial ∷ rest) e r = record { keyed = record { gapless = r.keyed.gapless; waiting = r.keyed.waiting; below = r.keyed.below }; ahead = r.ahead; waits = r.waits }
-after_runs f b (Clears ∷ rest) e r = record { keyed = record { gapless = r.keyed.gapless; waiting = r.keyed.waiting; below = r.keyed.below }; ahead = r.ahead; waits = r.waits }
+after_runs f b (Prunes ∷ rest) e r = record {
+  keyed = record { gapless = r.keyed.gapless; waiting = r.keyed.waiting; below = r.keyed.below };
+  ahead = r.ahead;
+  waits = r.waits;
+}
+after_runs f b (Removes serial ∷ rest) e r = record {
+  keyed = record { gapless = r.keyed.gapless; waiting = r.keyed.waiting; below = r.keyed.below };
+  ahead = r.ahead;
+  waits = r.waits;
+}
+after_runs f b (Clears ∷ rest) e r = record {
+  keyed = record { gapless = r.keyed.gapless; waiting = r.keyed.waiting; below = r.keyed.below };
+  ahead = r.ahead;
+  waits = r.waits;
+}
 
-steps_runs : (f : Formats) (n : ℕ) (b : BootState) → Runs b.machine b.left → Runs (after_steps f n b).machine (after_steps f n b).left
+steps_runs : (f : Formats) (n : ℕ) (b : BootState) → Runs b.machine b.left
+    → Runs (after_steps f n b).machine (after_steps f n b).left
 steps_runs f zero b r = r
-steps_runs f (suc n) b r = after_runs f (after_steps f n b) (after_steps f n b).left refl (steps_runs f n b r)
+steps_runs f (suc n) b r =
+    after_runs f (after_steps f n b) (after_steps f n b).left refl (steps_runs f n b r)
 
 -- the work of a boot with nothing open
 each_true : {X : Type 0} (P : X → Type 0) → ((x : X) → P x) → (xs : List X) → AllByRecursion P xs
 each_true P h [] = tt
 each_true P h (x ∷ xs) = (h x, each_true P h xs)
 
-prune_ahead : (m : Machine) (keys : List UnitKey) (rest : List BootTask) → Ahead keys rest → Ahead keys (prune_tasks m ++ rest)
+prune_ahead : (m : Machine) (keys : List UnitKey) (rest : List BootTask) → Ahead keys rest
+    → Ahead keys (prune_tasks m ++ rest)
 prune_ahead m keys rest a = by_test _
   where
     by_test : (t : Bool) → Ahead keys (cond t (Prunes ∷ []) [] ++ rest)
     by_test true = a
     by_test false = a
 
-folder_ahead : (f : Formats) (m : Machine) (keys : List UnitKey) → NoneOpen m.list → AreApart m → ((s : ℕ) → count 1 s keys ≡ count 1 s (keys_of m.list)) → Ahead keys (folder_tasks f m)
+folder_ahead : (f : Formats) (m : Machine) (keys : List UnitKey) → NoneOpen m.list → AreApart m
+    → ((s : ℕ) → count 1 s keys ≡ count 1 s (keys_of m.list)) → Ahead keys (folder_tasks f m)
 folder_ahead f m keys none a same = by_bit m.is_signalled
   where
     files : List BootTask
@@ -150,91 +212,155 @@ folder_ahead f m keys none a same = by_bit m.is_signalled
 
     done : Ahead keys (files ++ Clears ∷ [])
     done = files_ahead f m (files_in_order m) keys (Clears ∷ []) (λ ks. tt)
-        (distinct_ordered (λ (x y : File). x.serial == y.serial) (λ x y. Rattle.reference_machine.specs.Names.is_taken_before x.name y.name) (λ x y h. turned x.serial y.serial h) m.files a.files)
-        (each_true (λ (x : File). count 1 x.serial keys ≡ spent m.list x.serial) (λ x. same x.serial ∙ sym (spent_all m.list x.serial none)) (files_in_order m))
+        (distinct_ordered (λ (x y : File). x.serial == y.serial)
+        (λ x y. Rattle.reference_machine.specs.Names.is_taken_before x.name y.name)
+        (λ x y h. turned x.serial y.serial h) m.files a.files)
+        (each_true (λ (x : File). count 1 x.serial keys ≡ spent m.list x.serial)
+        (λ x. same x.serial ∙ sym (spent_all m.list x.serial none)) (files_in_order m))
 
     by_bit : (t : Bool) → Ahead keys (cond t (prune_tasks m ++ files ++ Clears ∷ []) [])
-    by_bit true = subst (Ahead keys) (sym (append_assoc (prune_tasks m) files (Clears ∷ []))) (prune_ahead m keys (files ++ Clears ∷ []) done)
+    by_bit true =
+        subst (Ahead keys) (sym (append_assoc (prune_tasks m) files (Clears ∷ [])))
+        (prune_ahead m keys (files ++ Clears ∷ []) done)
     by_bit false = tt
 
-work_ahead : (f : Formats) (m : Machine) → NoneOpen m.list → AreApart m → Keyed m → Ahead (keys_of m.list) (staged_tasks f m ++ folder_tasks f m)
+work_ahead : (f : Formats) (m : Machine) → NoneOpen m.list → AreApart m → Keyed m
+    → Ahead (keys_of m.list) (staged_tasks f m ++ folder_tasks f m)
 work_ahead f m none a k =
-    staged_ahead f m (staged_in_order m) (keys_of m.list) (folder_tasks f m) (λ ks same. folder_ahead f m ks none a same)
-    (distinct_ordered (λ (x y : StagedPair). x.serial == y.serial) (λ x y. Rattle.std.specs.Prelude.nat_lt x.serial y.serial) (λ x y h. turned x.serial y.serial h) m.staged a.staged)
-    (all_ordered (λ (p : StagedPair). count 0 p.serial (keys_of m.list) ≡ 0) (λ x y. Rattle.std.specs.Prelude.nat_lt x.serial y.serial) m.staged k.waiting)
+    staged_ahead f m (staged_in_order m) (keys_of m.list) (folder_tasks f m)
+    (λ ks same. folder_ahead f m ks none a same)
+    (distinct_ordered (λ (x y : StagedPair). x.serial == y.serial)
+    (λ x y. Rattle.std.specs.Prelude.nat_lt x.serial y.serial)
+    (λ x y h. turned x.serial y.serial h) m.staged a.staged)
+    (all_ordered (λ (p : StagedPair). count 0 p.serial (keys_of m.list) ≡ 0)
+    (λ x y. Rattle.std.specs.Prelude.nat_lt x.serial y.serial) m.staged k.waiting)
 
 -- and its units by memory wait no longer when they are done
-does_wait : (r s n last : ℕ) (us : List BootUnit) (staged : List StagedPair) (rest : List BootTask) → Numbered r s n us → ((r == 0) ≡ true → (s ≤ last) × AllByRecursion (λ (q : StagedPair). (q.serial == s) ≡ false) staged) → Waits last staged rest → Waits last staged (map Does us ++ rest)
+does_wait : (r s n last : ℕ) (us : List BootUnit) (staged : List StagedPair) (rest : List BootTask)
+    → Numbered r s n us
+    → ((r == 0) ≡ true
+    → (s ≤ last) × AllByRecursion (λ (q : StagedPair). (q.serial == s) ≡ false) staged)
+    → Waits last staged rest → Waits last staged (map Does us ++ rest)
 does_wait r s n last [] staged rest h w later = later
 does_wait r s n last (u ∷ us) staged rest h w later =
-    let here : (u.key.ticket.route == 0) ≡ true → (u.key.ticket.serial ≤ last) × AllByRecursion (λ (q : StagedPair). (q.serial == u.key.ticket.serial) ≡ false) staged =
-    λ e. subst (λ i. (i ≤ last) × AllByRecursion (λ (q : StagedPair). (q.serial == i) ≡ false) staged) (sym h.0.serial) (w (ap (λ i. i == 0) (sym h.0.route) ∙ e)) in
+    let here : (u.key.ticket.route == 0) ≡ true
+    → (u.key.ticket.serial ≤ last)
+    × AllByRecursion (λ (q : StagedPair). (q.serial == u.key.ticket.serial) ≡ false) staged =
+    λ e. subst (λ i. (i ≤ last)
+    × AllByRecursion (λ (q : StagedPair). (q.serial == i) ≡ false) staged) (sym h.0.serial)
+    (w (ap (λ i. i == 0) (sym h.0.route) ∙ e)) in
     (here, does_wait r s (n + 1) last us staged rest h.1 w later)
 
-staged_wait : (f : Formats) (m : Machine) (last : ℕ) (ps : List StagedPair) (staged : List StagedPair) (rest : List BootTask) → AllByRecursion (λ (p : StagedPair). p.serial ≤ last) ps → ((ss : List StagedPair) → Waits last ss rest) → Waits last staged (flat_map (pair_tasks f m) ps ++ rest)
+staged_wait : (f : Formats) (m : Machine) (last : ℕ) (ps : List StagedPair)
+    (staged : List StagedPair) (rest : List BootTask)
+    → AllByRecursion (λ (p : StagedPair). p.serial ≤ last) ps
+    → ((ss : List StagedPair) → Waits last ss rest)
+    → Waits last staged (flat_map (pair_tasks f m) ps ++ rest)
 staged_wait f m last [] staged rest all free = free staged
 staged_wait f m last (p ∷ ps) staged rest all free =
     let us : List BootUnit = units f (memory_delivery f m p) m.board in
     let in_progress : List StagedPair = filter (λ q. not (q.serial == p.serial)) staged in
-    let numbered : Numbered 0 p.serial 0 us = all_numbered (memory_delivery f m p) 0 (pieces m.board (option_and_then f.capsules (memory_delivery f m p).bytes)) in
+    let numbered : Numbered 0 p.serial 0 us =
+    all_numbered (memory_delivery f m p) 0
+    (pieces m.board (option_and_then f.capsules (memory_delivery f m p).bytes)) in
     let gone : AllByRecursion (λ (q : StagedPair). (q.serial == p.serial) ≡ false) in_progress =
-    all_imply (λ (q : StagedPair). not (q.serial == p.serial) ≡ true) (λ (q : StagedPair). (q.serial == p.serial) ≡ false) (λ q h. no_longer (q.serial == p.serial) h) in_progress (kept_pass (λ q. not (q.serial == p.serial)) staged) in
-    subst (Waits last in_progress) (sym (append_assoc (map Does us) (flat_map (pair_tasks f m) ps) rest))
-    (does_wait 0 p.serial 0 last us in_progress (flat_map (pair_tasks f m) ps ++ rest) numbered (λ e. (all.0, gone)) (staged_wait f m last ps in_progress rest all.1 free))
+    all_imply (λ (q : StagedPair). not (q.serial == p.serial) ≡ true)
+    (λ (q : StagedPair). (q.serial == p.serial) ≡ false)
+    (λ q h. no_longer (q.serial == p.serial) h) in_progress
+    (kept_pass (λ q. not (q.serial == p.serial)) staged) in
+    subst (Waits last in_progress)
+    (sym (append_assoc (map Does us) (flat_map (pair_tasks f m) ps) rest))
+    (does_wait 0 p.serial 0 last us in_progress (flat_map (pair_tasks f m) ps ++ rest) numbered
+    (λ e. (all.0, gone)) (staged_wait f m last ps in_progress rest all.1 free))
 
-files_wait : (f : Formats) (m : Machine) (last : ℕ) (xs : List File) (staged : List StagedPair) (rest : List BootTask) → Waits last staged rest → Waits last staged (flat_map (file_tasks f m) xs ++ rest)
+files_wait : (f : Formats) (m : Machine) (last : ℕ) (xs : List File) (staged : List StagedPair)
+    (rest : List BootTask) → Waits last staged rest
+    → Waits last staged (flat_map (file_tasks f m) xs ++ rest)
 files_wait f m last [] staged rest later = later
 files_wait f m last (x ∷ xs) staged rest later =
     let us : List BootUnit = drop (spent m.list x.serial) (units f (file_delivery x) m.board) in
-    let numbered : Numbered 1 x.serial (0 + spent m.list x.serial) us = rest_numbered 1 x.serial 0 (spent m.list x.serial) (units f (file_delivery x) m.board) (all_numbered (file_delivery x) 0 (pieces m.board (option_and_then f.capsules (file_delivery x).bytes))) in
-    let split : (map Does us ++ Removes x.serial ∷ []) ++ flat_map (file_tasks f m) xs ++ rest ≡ map Does us ++ (Removes x.serial ∷ (flat_map (file_tasks f m) xs ++ rest)) =
-    append_assoc (map Does us ++ Removes x.serial ∷ []) (flat_map (file_tasks f m) xs) rest ∙ append_assoc (map Does us) (Removes x.serial ∷ []) (flat_map (file_tasks f m) xs ++ rest) in
-    let no : (1 == 0) ≡ true → (x.serial ≤ last) × AllByRecursion (λ (q : StagedPair). (q.serial == x.serial) ≡ false) staged = λ e. absurd (cc) in
-    subst (Waits last staged) (sym split) (does_wait 1 x.serial (0 + spent m.list x.serial) last us staged (Removes x.serial ∷ (flat_map (file_tasks f m) xs ++ rest)) numbered no (files_wait f m last xs staged rest later))
+    let numbered : Numbered 1 x.serial (0 + spent m.list x.serial) us =
+    rest_numbered 1 x.serial 0 (spent m.list x.serial) (units f (file_delivery x) m.board)
+    (all_numbered (file_delivery x) 0
+    (pieces m.board (option_and_then f.capsules (file_delivery x).bytes))) in
+    let split : (map Does us ++ Removes x.serial ∷ []) ++ flat_map (file_tasks f m) xs ++ rest
+    ≡ map Does us ++ (Removes x.serial ∷ (flat_map (file_tasks f m) xs ++ rest)) =
+    append_assoc (map Does us ++ Removes x.serial ∷ []) (flat_map (file_tasks f m) xs) rest
+    ∙ append_assoc (map Does us) (Removes x.serial ∷ [])
+    (flat_map (file_tasks f m) xs ++ rest) in
+    let no : (1 == 0) ≡ true
+    → (x.serial ≤ last)
+    × AllByRecursion (λ (q : StagedPair). (q.serial == x.serial) ≡ false) staged =
+    λ e. absurd (cc) in
+    subst (Waits last staged) (sym split)
+    (does_wait 1 x.serial (0 + spent m.list x.serial) last us staged
+    (Removes x.serial ∷ (flat_map (file_tasks f m) xs ++ rest)) numbered no
+    (files_wait f m last xs staged rest later))
 
-prune_wait : (m : Machine) (last : ℕ) (staged : List StagedPair) (rest : List BootTask) → Waits last staged rest → Waits last staged (prune_tasks m ++ rest)
+prune_wait : (m : Machine) (last : ℕ) (staged : List StagedPair) (rest : List BootTask)
+    → Waits last staged rest → Waits last staged (prune_tasks m ++ rest)
 prune_wait m last staged rest w = by_test _
   where
     by_test : (t : Bool) → Waits last staged (cond t (Prunes ∷ []) [] ++ rest)
     by_test true = w
     by_test false = w
 
-folder_wait : (f : Formats) (m : Machine) (last : ℕ) (staged : List StagedPair) → Waits last staged (folder_tasks f m)
+folder_wait : (f : Formats) (m : Machine) (last : ℕ) (staged : List StagedPair)
+    → Waits last staged (folder_tasks f m)
 folder_wait f m last staged = by_bit m.is_signalled
   where
     files : List BootTask
     files = flat_map (file_tasks f m) (files_in_order m)
 
     by_bit : (t : Bool) → Waits last staged (cond t (prune_tasks m ++ files ++ Clears ∷ []) [])
-    by_bit true = subst (Waits last staged) (sym (append_assoc (prune_tasks m) files (Clears ∷ []))) (prune_wait m last staged (files ++ Clears ∷ []) (files_wait f m last (files_in_order m) staged (Clears ∷ []) tt))
+    by_bit true =
+        subst (Waits last staged) (sym (append_assoc (prune_tasks m) files (Clears ∷ [])))
+        (prune_wait m last staged (files ++ Clears ∷ [])
+        (files_wait f m last (files_in_order m) staged (Clears ∷ []) tt))
     by_bit false = tt
 
-work_waits : (f : Formats) (m : Machine) → AreApart m → Waits m.last_staged m.staged (staged_tasks f m ++ folder_tasks f m)
+work_waits : (f : Formats) (m : Machine) → AreApart m
+    → Waits m.last_staged m.staged (staged_tasks f m ++ folder_tasks f m)
 work_waits f m a =
     staged_wait f m m.last_staged (staged_in_order m) m.staged (folder_tasks f m)
-    (all_ordered (λ (p : StagedPair). p.serial ≤ m.last_staged) (λ x y. Rattle.std.specs.Prelude.nat_lt x.serial y.serial) m.staged a.last_staged)
+    (all_ordered (λ (p : StagedPair). p.serial ≤ m.last_staged)
+    (λ x y. Rattle.std.specs.Prelude.nat_lt x.serial y.serial) m.staged a.last_staged)
     (λ ss. folder_wait f m m.last_staged ss)
 
-work_runs : (f : Formats) (m : Machine) → NoneOpen m.list → AreApart m → Keyed m → Runs m (staged_tasks f m ++ folder_tasks f m)
-work_runs f m none a k = record { keyed = k; ahead = work_ahead f m none a k; waits = work_waits f m a }
+work_runs : (f : Formats) (m : Machine) → NoneOpen m.list → AreApart m → Keyed m
+    → Runs m (staged_tasks f m ++ folder_tasks f m)
+work_runs f m none a k = record {
+  keyed = k;
+  ahead = work_ahead f m none a k;
+  waits = work_waits f m a;
+}
 
 -- a boot begins so
-start_runs : (f : Formats) (m : Machine) (h : End) → IsHeldEnd h → Sound m → AreApart m → Keyed m → Runs m (boot_tasks f m h)
+start_runs : (f : Formats) (m : Machine) (h : End) → IsHeldEnd h → Sound m → AreApart m → Keyed m
+    → Runs m (boot_tasks f m h)
 start_runs f m h held (inl r) a k =
-    let is : boot_tasks f m h ≡ tasks_with f m h None = ap (tasks_with f m h) (find_none m.list r.none) in
+    let is : boot_tasks f m h ≡ tasks_with f m h None =
+    ap (tasks_with f m h) (find_none m.list r.none) in
     subst (Runs m) (sym is) (work_runs f m r.none a k)
 start_runs f m h held (inr p) a k =
-    let found : find is_open m.list ≡ Some p.last = ap (find is_open) p.parts ∙ find_last p.front p.last p.none p.is_last in
+    let found : find is_open m.list ≡ Some p.last =
+    ap (find is_open) p.parts ∙ find_last p.front p.last p.none p.is_last in
     let is : boot_tasks f m h ≡ tasks_with f m h (Some p.last) = ap (tasks_with f m h) found in
     let healed : Machine = settled_with m h (Some p.last) in
     let same : settled m h ≡ healed = ap (settled_with m h) found in
     let rests : Rests healed.board healed.list = settled_list m.board m.list h m.now held p in
-    let none : NoneOpen (settled m h).list = subst (λ (x : Machine). NoneOpen x.list) (sym same) rests.none in
+    let none : NoneOpen (settled m h).list =
+    subst (λ (x : Machine). NoneOpen x.list) (sym same) rests.none in
     let apart : AreApart (settled m h) = settled_apart m h (find is_open m.list) a in
     let o : Option Element = find is_open m.list in
-    let keyed : Keyed (settled m h) = (runs_same m (settled m h) [] (settled_keys m h o) (settled_staged m h o) (settled_last m h o) (record { keyed = k; ahead = tt; waits = tt })).keyed in
-    let there : Runs (settled m h) (staged_tasks f (settled m h) ++ folder_tasks f (settled m h)) = work_runs f (settled m h) none apart keyed in
-    let here : Runs m (staged_tasks f (settled m h) ++ folder_tasks f (settled m h)) = runs_same (settled m h) m _ (sym (settled_keys m h o)) (sym (settled_staged m h o)) (sym (settled_last m h o)) there in
+    let keyed : Keyed (settled m h) =
+    (runs_same m (settled m h) [] (settled_keys m h o) (settled_staged m h o)
+    (settled_last m h o) (record { keyed = k; ahead = tt; waits = tt })).keyed in
+    let there : Runs (settled m h) (staged_tasks f (settled m h) ++ folder_tasks f (settled m h)) =
+    work_runs f (settled m h) none apart keyed in
+    let here : Runs m (staged_tasks f (settled m h) ++ folder_tasks f (settled m h)) =
+    runs_same (settled m h) m _ (sym (settled_keys m h o)) (sym (settled_staged m h o))
+    (sym (settled_last m h o)) there in
     subst (Runs m) (sym is) (record { keyed = here.keyed; ahead = here.ahead; waits = here.waits })
 
 pub record Orderly (m : Machine) : Type 0 where
@@ -242,41 +368,103 @@ pub record Orderly (m : Machine) : Type 0 where
   pub apart : AreApart m
   pub keyed : Keyed m
 
-pub boot_orderly : (f : Formats) (m : Machine) (h : End) (j : ℕ) → IsHeldEnd h → Orderly m → Orderly (boot_at f m h j).machine
+pub boot_orderly : (f : Formats) (m : Machine) (h : End) (j : ℕ) → IsHeldEnd h → Orderly m
+    → Orderly (boot_at f m h j).machine
 boot_orderly f m h j held o = record {
-  sound = sound_of (boot_at f m h j).machine (boot_at f m h j).left (boot_going f m h j held o.sound);
+  sound = sound_of (boot_at f m h j).machine (boot_at f m h j).left
+      (boot_going f m h j held o.sound);
   apart = boot_apart f m h j o.apart;
   keyed = (steps_runs f j (boot_start f m h) (start_runs f m h held o.sound o.apart o.keyed)).keyed;
 }
 
 -- a serial that was never used has no unit
-unused : (last : ℕ) (keys : List UnitKey) → AllByRecursion (λ (k : UnitKey). (k.ticket.route == 0) ≡ true → k.ticket.serial ≤ last) keys → count 0 (last + 1) keys ≡ 0
+unused : (last : ℕ) (keys : List UnitKey)
+    → AllByRecursion (λ (k : UnitKey). (k.ticket.route == 0) ≡ true → k.ticket.serial ≤ last) keys
+    → count 0 (last + 1) keys ≡ 0
 unused last [] all = refl
 unused last (k ∷ ks) all =
-    let none : is_of 0 (last + 1) k ≡ false = not_waiting k (last + 1) (λ e. above (k.ticket.serial) (all.0 e)) in
-    ap (λ b. length (cond b (k ∷ filter (is_of 0 (last + 1)) ks) (filter (is_of 0 (last + 1)) ks))) none ∙ unused last ks all.1
+    let none : is_of 0 (last + 1) k ≡ false =
+    not_waiting k (last + 1) (λ e. above (k.ticket.serial) (all.0 e)) in
+    ap (λ b. length
+    (cond b (k ∷ filter (is_of 0 (last + 1)) ks) (filter (is_of 0 (last + 1)) ks))) none
+    ∙ unused last ks all.1
   where
     above : (s : ℕ) → s ≤ last → (last + 1 == s) ≡ false
     above s h = grind (arith, nat_tests)
 
 pub orderly_keeps : (f : Formats) → Keeps f Orderly
 orderly_keeps f = record {
-  fails = λ m o. record { sound = o.sound; apart = (apart_keeps f).fails m o.apart; keyed = record { gapless = o.keyed.gapless; waiting = o.keyed.waiting; below = o.keyed.below } };
-  later = λ m moment o. record { sound = o.sound; apart = (apart_keeps f).later m moment o.apart; keyed = record { gapless = o.keyed.gapless; waiting = o.keyed.waiting; below = o.keyed.below } };
-  puts = λ m file bytes e o. record { sound = o.sound; apart = (apart_keeps f).puts m file bytes e o.apart; keyed = record { gapless = o.keyed.gapless; waiting = o.keyed.waiting; below = o.keyed.below } };
-  asks = λ m o. record { sound = o.sound; apart = (apart_keeps f).asks m o.apart; keyed = record { gapless = o.keyed.gapless; waiting = o.keyed.waiting; below = o.keyed.below } };
-  lays = λ m address bytes o. record { sound = o.sound; apart = (apart_keeps f).lays m address bytes o.apart; keyed = record { gapless = o.keyed.gapless; waiting = o.keyed.waiting; below = o.keyed.below } };
+  fails = λ m o. record {
+    sound = o.sound;
+    apart = (apart_keeps f).fails m o.apart;
+    keyed = record {
+      gapless = o.keyed.gapless;
+      waiting = o.keyed.waiting;
+      below = o.keyed.below;
+    };
+  };
+  later = λ m moment o. record {
+    sound = o.sound;
+    apart = (apart_keeps f).later m moment o.apart;
+    keyed = record {
+      gapless = o.keyed.gapless;
+      waiting = o.keyed.waiting;
+      below = o.keyed.below;
+    };
+  };
+  puts = λ m file bytes e o. record {
+    sound = o.sound;
+    apart = (apart_keeps f).puts m file bytes e o.apart;
+    keyed =
+        record { gapless = o.keyed.gapless; waiting = o.keyed.waiting; below = o.keyed.below };
+  };
+  asks = λ m o. record {
+    sound = o.sound;
+    apart = (apart_keeps f).asks m o.apart;
+    keyed = record {
+      gapless = o.keyed.gapless;
+      waiting = o.keyed.waiting;
+      below = o.keyed.below;
+    };
+  };
+  lays = λ m address bytes o. record {
+    sound = o.sound;
+    apart = (apart_keeps f).lays m address bytes o.apart;
+    keyed =
+        record { gapless = o.keyed.gapless; waiting = o.keyed.waiting; below = o.keyed.below };
+  };
   stages = λ m address e o. record {
     sound = o.sound;
     apart = (apart_keeps f).stages m address e o.apart;
     keyed = record {
       gapless = o.keyed.gapless;
-      waiting = all_more (λ (p : StagedPair). count 0 p.serial (keys_of m.list) ≡ 0) m.staged (record { serial = m.last_staged + 1; address = address }) o.keyed.waiting (unused m.last_staged (keys_of m.list) o.keyed.below);
-      below = all_imply (λ (k : UnitKey). (k.ticket.route == 0) ≡ true → k.ticket.serial ≤ m.last_staged) (λ (k : UnitKey). (k.ticket.route == 0) ≡ true → k.ticket.serial ≤ m.last_staged + 1) (λ k h t. up k.ticket.serial m.last_staged (h t)) (keys_of m.list) o.keyed.below;
+      waiting = all_more (λ (p : StagedPair). count 0 p.serial (keys_of m.list) ≡ 0) m.staged
+          (record { serial = m.last_staged + 1; address = address }) o.keyed.waiting
+          (unused m.last_staged (keys_of m.list) o.keyed.below);
+      below = all_imply
+          (λ (k : UnitKey). (k.ticket.route == 0) ≡ true → k.ticket.serial ≤ m.last_staged)
+          (λ (k : UnitKey). (k.ticket.route == 0) ≡ true → k.ticket.serial ≤ m.last_staged + 1)
+          (λ k h t. up k.ticket.serial m.last_staged (h t)) (keys_of m.list) o.keyed.below;
     };
   };
-  cold = λ m o. record { sound = o.sound; apart = (apart_keeps f).cold m o.apart; keyed = record { gapless = o.keyed.gapless; waiting = o.keyed.waiting; below = o.keyed.below } };
-  warm = λ m o. record { sound = o.sound; apart = (apart_keeps f).warm m o.apart; keyed = record { gapless = o.keyed.gapless; waiting = o.keyed.waiting; below = o.keyed.below } };
+  cold = λ m o. record {
+    sound = o.sound;
+    apart = (apart_keeps f).cold m o.apart;
+    keyed = record {
+      gapless = o.keyed.gapless;
+      waiting = o.keyed.waiting;
+      below = o.keyed.below;
+    };
+  };
+  warm = λ m o. record {
+    sound = o.sound;
+    apart = (apart_keeps f).warm m o.apart;
+    keyed = record {
+      gapless = o.keyed.gapless;
+      waiting = o.keyed.waiting;
+      below = o.keyed.below;
+    };
+  };
   boots = λ m h j held o. boot_orderly f m h j held o;
 }
   where

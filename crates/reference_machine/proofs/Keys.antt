@@ -23,7 +23,8 @@ keys_of list = map (λ e. e.key) list
 -- each key is preceded by as many of its delivery as its number says
 abbrev pub Gapless : List UnitKey → List UnitKey → Type 0
 Gapless before [] = Unit {0}
-Gapless before (k ∷ ks) = (k.unit ≡ count k.ticket.route k.ticket.serial before) × Gapless (before ++ k ∷ []) ks
+Gapless before (k ∷ ks) =
+    (k.unit ≡ count k.ticket.route k.ticket.serial before) × Gapless (before ++ k ∷ []) ks
 
 pub keys_append : (xs ys : List Element) → keys_of (xs ++ ys) ≡ keys_of xs ++ keys_of ys
 keys_append [] ys = refl
@@ -37,78 +38,132 @@ closed_key end now e = by_test (is_open e)
     by_test true = refl
     by_test false = refl
 
-pub keys_closed : (end : End) (now : EfiTime) (list : List Element) → keys_of (map (closed_with end now) list) ≡ keys_of list
+pub keys_closed : (end : End) (now : EfiTime) (list : List Element)
+    → keys_of (map (closed_with end now) list) ≡ keys_of list
 keys_closed end now [] = refl
 keys_closed end now (e ∷ es) =
-    ap (λ k. k ∷ keys_of (map (closed_with end now) es)) (closed_key end now e) ∙ ap (λ ks. e.key ∷ ks) (keys_closed end now es)
+    ap (λ k. k ∷ keys_of (map (closed_with end now) es)) (closed_key end now e)
+    ∙ ap (λ ks. e.key ∷ ks) (keys_closed end now es)
 
 -- one more key is one more of its delivery, and none of another
-filter_more : (p : UnitKey → Bool) (xs : List UnitKey) (k : UnitKey) → length (filter p (xs ++ k ∷ [])) ≡ length (filter p xs) + cond (p k) 1 0
-filter_more p [] k = elim (p k) as (λ b. length (cond b (k ∷ []) []) ≡ 0 + cond b 1 0) [ true ↦ refl | false ↦ refl ]
+filter_more : (p : UnitKey → Bool) (xs : List UnitKey) (k : UnitKey)
+    → length (filter p (xs ++ k ∷ [])) ≡ length (filter p xs) + cond (p k) 1 0
+filter_more p [] k =
+    elim (p k) as (λ b. length (cond b (k ∷ []) []) ≡ 0 + cond b 1 0) [ true ↦ refl | false ↦ refl ]
 filter_more p (x ∷ xs) k =
-    let h : length (filter p (xs ++ k ∷ [])) ≡ length (filter p xs) + cond (p k) 1 0 = filter_more p xs k in
-    elim (p x) as (λ b. length (cond b (x ∷ filter p (xs ++ k ∷ [])) (filter p (xs ++ k ∷ []))) ≡ length (cond b (x ∷ filter p xs) (filter p xs)) + cond (p k) 1 0) [
+    let h : length (filter p (xs ++ k ∷ [])) ≡ length (filter p xs) + cond (p k) 1 0 =
+    filter_more p xs k in
+    elim (p x) as
+    (λ b. length (cond b (x ∷ filter p (xs ++ k ∷ [])) (filter p (xs ++ k ∷ [])))
+    ≡ length (cond b (x ∷ filter p xs) (filter p xs)) + cond (p k) 1 0) [
       | true ↦ omega arith
       | false ↦ h
     ]
 
-pub count_more : (r s : ℕ) (xs : List UnitKey) (k : UnitKey) → is_of r s k ≡ true → count r s (xs ++ k ∷ []) ≡ count r s xs + 1
+pub count_more : (r s : ℕ) (xs : List UnitKey) (k : UnitKey) → is_of r s k ≡ true
+    → count r s (xs ++ k ∷ []) ≡ count r s xs + 1
 count_more r s xs k h = filter_more (is_of r s) xs k ∙ ap (λ b. count r s xs + cond b 1 0) h
 
-pub count_other : (r s : ℕ) (xs : List UnitKey) (k : UnitKey) → is_of r s k ≡ false → count r s (xs ++ k ∷ []) ≡ count r s xs
-count_other r s xs k h = filter_more (is_of r s) xs k ∙ ap (λ b. count r s xs + cond b 1 0) h ∙ omega arith
+pub count_other : (r s : ℕ) (xs : List UnitKey) (k : UnitKey) → is_of r s k ≡ false
+    → count r s (xs ++ k ∷ []) ≡ count r s xs
+count_other r s xs k h =
+    filter_more (is_of r s) xs k ∙ ap (λ b. count r s xs + cond b 1 0) h ∙ omega arith
 
-pub gapless_more : (before xs : List UnitKey) (k : UnitKey) → Gapless before xs → k.unit ≡ count k.ticket.route k.ticket.serial (before ++ xs) → Gapless before (xs ++ k ∷ [])
-gapless_more before [] k g h = (subst (λ b. k.unit ≡ count k.ticket.route k.ticket.serial b) (append-nil before) h, tt)
-gapless_more before (x ∷ xs) k g h =
-    (g.0, gapless_more (before ++ x ∷ []) xs k g.1 (subst (λ b. k.unit ≡ count k.ticket.route k.ticket.serial b) (sym (append_assoc before (x ∷ []) xs)) h))
+pub gapless_more : (before xs : List UnitKey) (k : UnitKey) → Gapless before xs
+    → k.unit ≡ count k.ticket.route k.ticket.serial (before ++ xs) → Gapless before (xs ++ k ∷ [])
+gapless_more before [] k g h =
+    (subst (λ b. k.unit ≡ count k.ticket.route k.ticket.serial b) (append-nil before) h, tt)
+gapless_more before (x ∷ xs) k g h = (
+  g.0,
+  gapless_more (before ++ x ∷ []) xs k g.1
+      (subst (λ b. k.unit ≡ count k.ticket.route k.ticket.serial b)
+      (sym (append_assoc before (x ∷ []) xs)) h),
+)
 
 -- what is known of each element
-gapless_at : (seen : List UnitKey) (before rest : List Element) (e : Element) → Gapless seen (keys_of (before ++ e ∷ rest)) → e.key.unit ≡ count e.key.ticket.route e.key.ticket.serial (seen ++ keys_of before)
-gapless_at seen [] rest e g = subst (λ b. e.key.unit ≡ count e.key.ticket.route e.key.ticket.serial b) (sym (append-nil seen)) g.0
+gapless_at : (seen : List UnitKey) (before rest : List Element) (e : Element)
+    → Gapless seen (keys_of (before ++ e ∷ rest))
+    → e.key.unit ≡ count e.key.ticket.route e.key.ticket.serial (seen ++ keys_of before)
+gapless_at seen [] rest e g =
+    subst (λ b. e.key.unit ≡ count e.key.ticket.route e.key.ticket.serial b)
+    (sym (append-nil seen)) g.0
 gapless_at seen (x ∷ xs) rest e g =
-    subst (λ b. e.key.unit ≡ count e.key.ticket.route e.key.ticket.serial b) (append_assoc seen (x.key ∷ []) (keys_of xs)) (gapless_at (seen ++ x.key ∷ []) xs rest e g.1)
+    subst (λ b. e.key.unit ≡ count e.key.ticket.route e.key.ticket.serial b)
+    (append_assoc seen (x.key ∷ []) (keys_of xs))
+    (gapless_at (seen ++ x.key ∷ []) xs rest e g.1)
 
 -- keys and elements are counted alike
-counted_alike : (p : UnitKey → Bool) (list : List Element) → length (filter p (keys_of list)) ≡ length (filter (λ e. p e.key) list)
+counted_alike : (p : UnitKey → Bool) (list : List Element)
+    → length (filter p (keys_of list)) ≡ length (filter (λ e. p e.key) list)
 counted_alike p [] = refl
 counted_alike p (x ∷ xs) =
-    elim (p x.key) as (λ b. length (cond b (x.key ∷ filter p (keys_of xs)) (filter p (keys_of xs))) ≡ length (cond b (x ∷ filter (λ e. p e.key) xs) (filter (λ e. p e.key) xs))) [
+    elim (p x.key) as
+    (λ b. length (cond b (x.key ∷ filter p (keys_of xs)) (filter p (keys_of xs)))
+    ≡ length (cond b (x ∷ filter (λ e. p e.key) xs) (filter (λ e. p e.key) xs))) [
       | true ↦ ap (λ n. suc n) (counted_alike p xs)
       | false ↦ counted_alike p xs
     ]
 
 pub in_order : (list : List Element) → Gapless [] (keys_of list) → StandInOrder list
 in_order list g before rest e is =
-    gapless_at [] before rest e (subst (λ l. Gapless [] (keys_of l)) is g) ∙ counted_alike (is_of e.key.ticket.route e.key.ticket.serial) before
+    gapless_at [] before rest e (subst (λ l. Gapless [] (keys_of l)) is g)
+    ∙ counted_alike (is_of e.key.ticket.route e.key.ticket.serial) before
 
 same_number : (n : ℕ) → (n == n) ≡ true
 same_number n = grind (arith, nat_tests)
 
 pub is_of_itself : (k : UnitKey) → is_of k.ticket.route k.ticket.serial k ≡ true
-is_of_itself k = ap (λ b. b && (k.ticket.serial == k.ticket.serial)) (same_number k.ticket.route) ∙ same_number k.ticket.serial
+is_of_itself k =
+    ap (λ b. b && (k.ticket.serial == k.ticket.serial)) (same_number k.ticket.route)
+    ∙ same_number k.ticket.serial
 
 count_grows : (r s : ℕ) (xs ys : List UnitKey) → count r s xs ≤ count r s (xs ++ ys)
 count_grows r s [] ys = omega arith
 count_grows r s (x ∷ xs) ys =
     let h : count r s xs ≤ count r s (xs ++ ys) = count_grows r s xs ys in
-    elim (is_of r s x) as (λ b. length (cond b (x ∷ filter (is_of r s) xs) (filter (is_of r s) xs)) ≤ length (cond b (x ∷ filter (is_of r s) (xs ++ ys)) (filter (is_of r s) (xs ++ ys)))) [
+    elim (is_of r s x) as
+    (λ b. length (cond b (x ∷ filter (is_of r s) xs) (filter (is_of r s) xs))
+    ≤ length (cond b (x ∷ filter (is_of r s) (xs ++ ys)) (filter (is_of r s) (xs ++ ys)))) [
       | true ↦ omega arith
       | false ↦ h
     ]
 
--- two elements of one key would have one number, though the later one has more of its delivery before it
+-- two elements of one key would have one number, though the later one has more of its delivery
+-- before it
 pub distinct_keys : (list : List Element) → Gapless [] (keys_of list) → HaveDistinctKeys list
 distinct_keys list g before between rest a b is same =
-    let whole : Gapless [] (keys_of (before ++ a ∷ (between ++ b ∷ rest))) = subst (λ l. Gapless [] (keys_of l)) is g in
-    let first : a.key.unit ≡ count a.key.ticket.route a.key.ticket.serial (keys_of before) = gapless_at [] before (between ++ b ∷ rest) a whole in
-    let moved : before ++ a ∷ (between ++ b ∷ rest) ≡ (before ++ a ∷ between) ++ b ∷ rest = sym (append_assoc before (a ∷ between) (b ∷ rest)) in
-    let later : b.key.unit ≡ count b.key.ticket.route b.key.ticket.serial (keys_of (before ++ a ∷ between)) = gapless_at [] (before ++ a ∷ between) rest b (subst (λ l. Gapless [] (keys_of l)) moved whole) in
-    let second : a.key.unit ≡ count a.key.ticket.route a.key.ticket.serial (keys_of (before ++ a ∷ between)) = subst (λ (k : UnitKey). k.unit ≡ count k.ticket.route k.ticket.serial (keys_of (before ++ a ∷ between))) (sym same) later in
-    let split : keys_of (before ++ a ∷ between) ≡ (keys_of before ++ a.key ∷ []) ++ keys_of between = keys_append before (a ∷ between) ∙ sym (append_assoc (keys_of before) (a.key ∷ []) (keys_of between)) in
-    let one : count a.key.ticket.route a.key.ticket.serial (keys_of before ++ a.key ∷ []) ≡ count a.key.ticket.route a.key.ticket.serial (keys_of before) + 1 = count_more a.key.ticket.route a.key.ticket.serial (keys_of before) a.key (is_of_itself a.key) in
-    let grows : count a.key.ticket.route a.key.ticket.serial (keys_of before ++ a.key ∷ []) ≤ count a.key.ticket.route a.key.ticket.serial ((keys_of before ++ a.key ∷ []) ++ keys_of between) = count_grows a.key.ticket.route a.key.ticket.serial (keys_of before ++ a.key ∷ []) (keys_of between) in
-    let there : count a.key.ticket.route a.key.ticket.serial (keys_of (before ++ a ∷ between)) ≡ count a.key.ticket.route a.key.ticket.serial ((keys_of before ++ a.key ∷ []) ++ keys_of between) = ap (count a.key.ticket.route a.key.ticket.serial) split in
+    let whole : Gapless [] (keys_of (before ++ a ∷ (between ++ b ∷ rest))) =
+    subst (λ l. Gapless [] (keys_of l)) is g in
+    let first : a.key.unit ≡ count a.key.ticket.route a.key.ticket.serial (keys_of before) =
+    gapless_at [] before (between ++ b ∷ rest) a whole in
+    let moved : before ++ a ∷ (between ++ b ∷ rest) ≡ (before ++ a ∷ between) ++ b ∷ rest =
+    sym (append_assoc before (a ∷ between) (b ∷ rest)) in
+    let later : b.key.unit
+    ≡ count b.key.ticket.route b.key.ticket.serial (keys_of (before ++ a ∷ between)) =
+    gapless_at [] (before ++ a ∷ between) rest b
+    (subst (λ l. Gapless [] (keys_of l)) moved whole) in
+    let second : a.key.unit
+    ≡ count a.key.ticket.route a.key.ticket.serial (keys_of (before ++ a ∷ between)) =
+    subst (λ (k : UnitKey). k.unit
+    ≡ count k.ticket.route k.ticket.serial (keys_of (before ++ a ∷ between)))
+    (sym same) later in
+    let split : keys_of (before ++ a ∷ between)
+    ≡ (keys_of before ++ a.key ∷ []) ++ keys_of between =
+    keys_append before (a ∷ between)
+    ∙ sym (append_assoc (keys_of before) (a.key ∷ []) (keys_of between)) in
+    let one : count a.key.ticket.route a.key.ticket.serial (keys_of before ++ a.key ∷ [])
+    ≡ count a.key.ticket.route a.key.ticket.serial (keys_of before) + 1 =
+    count_more a.key.ticket.route a.key.ticket.serial (keys_of before) a.key
+    (is_of_itself a.key) in
+    let grows : count a.key.ticket.route a.key.ticket.serial (keys_of before ++ a.key ∷ [])
+    ≤ count a.key.ticket.route a.key.ticket.serial
+    ((keys_of before ++ a.key ∷ []) ++ keys_of between) =
+    count_grows a.key.ticket.route a.key.ticket.serial (keys_of before ++ a.key ∷ [])
+    (keys_of between) in
+    let there : count a.key.ticket.route a.key.ticket.serial (keys_of (before ++ a ∷ between))
+    ≡ count a.key.ticket.route a.key.ticket.serial
+    ((keys_of before ++ a.key ∷ []) ++ keys_of between) =
+    ap (count a.key.ticket.route a.key.ticket.serial) split in
     absurd (omega arith)
 
 -- the units that are left stand in order behind these keys
@@ -116,7 +171,9 @@ abbrev pub Ahead : List UnitKey → List BootTask → Type 0
 Ahead keys [] = Unit {0}
 Ahead keys (Settles kind end ∷ rest) = Ahead keys rest
 Ahead keys (Unstages pair ∷ rest) = Ahead keys rest
-Ahead keys (Does u ∷ rest) = (u.key.unit ≡ count u.key.ticket.route u.key.ticket.serial keys) × Ahead (keys ++ u.key ∷ []) rest
+Ahead keys (Does u ∷ rest) =
+    (u.key.unit ≡ count u.key.ticket.route u.key.ticket.serial keys)
+    × Ahead (keys ++ u.key ∷ []) rest
 Ahead keys (Prunes ∷ rest) = Ahead keys rest
 Ahead keys (Removes serial ∷ rest) = Ahead keys rest
 Ahead keys (Clears ∷ rest) = Ahead keys rest
@@ -134,12 +191,15 @@ Numbered r s n (u ∷ us) = IsUnit r s n u × Numbered r s (n + 1) us
 abbrev pub unit_keys : List BootUnit → List UnitKey
 unit_keys us = map (λ u. u.key) us
 
-pub all_numbered : (d : Delivery) (n : ℕ) (ps : List Piece) → Numbered d.route d.serial n (map (unit_of d) (enumerate_from n ps))
+pub all_numbered : (d : Delivery) (n : ℕ) (ps : List Piece)
+    → Numbered d.route d.serial n (map (unit_of d) (enumerate_from n ps))
 all_numbered d n [] = tt
-all_numbered d n (p ∷ ps) = (record { route = refl; serial = refl; number = refl }, all_numbered d (n + 1) ps)
+all_numbered d n (p ∷ ps) =
+    (record { route = refl; serial = refl; number = refl }, all_numbered d (n + 1) ps)
 
 -- what is left of them behind the first k
-pub rest_numbered : (r s n k : ℕ) (us : List BootUnit) → Numbered r s n us → Numbered r s (n + k) (drop k us)
+pub rest_numbered : (r s n k : ℕ) (us : List BootUnit) → Numbered r s n us
+    → Numbered r s (n + k) (drop k us)
 rest_numbered r s n zero us h = subst (λ i. Numbered r s i us) (omega arith) h
 rest_numbered r s n (suc k) [] h = tt
 rest_numbered r s n (suc k) (u ∷ us) h =
@@ -148,21 +208,34 @@ rest_numbered r s n (suc k) (u ∷ us) h =
 
 unit_is_of : (r s n : ℕ) (u : BootUnit) → IsUnit r s n u → is_of r s u.key ≡ true
 unit_is_of r s n u h =
-    ap (λ i. i == r && u.key.ticket.serial == s) h.route ∙ ap (λ i. r == r && i == s) h.serial ∙ ap (λ b. b && s == s) (same_number r) ∙ same_number s
+    ap (λ i. i == r && u.key.ticket.serial == s) h.route ∙ ap (λ i. r == r && i == s) h.serial
+    ∙ ap (λ b. b && s == s) (same_number r) ∙ same_number s
 
 -- such units stand in order behind as many keys of their delivery as their first number says
-pub do_ahead : (r s n : ℕ) (us : List BootUnit) (keys : List UnitKey) (rest : List BootTask) → Numbered r s n us → count r s keys ≡ n → Ahead (keys ++ unit_keys us) rest → Ahead keys (map Does us ++ rest)
+pub do_ahead : (r s n : ℕ) (us : List BootUnit) (keys : List UnitKey) (rest : List BootTask)
+    → Numbered r s n us → count r s keys ≡ n → Ahead (keys ++ unit_keys us) rest
+    → Ahead keys (map Does us ++ rest)
 do_ahead r s n [] keys rest h e a = subst (λ ks. Ahead ks rest) (append-nil keys) a
 do_ahead r s n (u ∷ us) keys rest h e a =
-    let here : count r s keys ≡ count u.key.ticket.route u.key.ticket.serial keys = ap (λ i. count i s keys) (sym h.0.route) ∙ ap (λ i. count u.key.ticket.route i keys) (sym h.0.serial) in
-    let next : count r s (keys ++ u.key ∷ []) ≡ n + 1 = count_more r s keys u.key (unit_is_of r s n u h.0) ∙ ap (λ i. i + 1) e in
-    (h.0.number ∙ sym e ∙ here, do_ahead r s (n + 1) us (keys ++ u.key ∷ []) rest h.1 next (subst (λ ks. Ahead ks rest) (sym (append_assoc keys (u.key ∷ []) (unit_keys us))) a))
+    let here : count r s keys ≡ count u.key.ticket.route u.key.ticket.serial keys =
+    ap (λ i. count i s keys) (sym h.0.route)
+    ∙ ap (λ i. count u.key.ticket.route i keys) (sym h.0.serial) in
+    let next : count r s (keys ++ u.key ∷ []) ≡ n + 1 =
+    count_more r s keys u.key (unit_is_of r s n u h.0) ∙ ap (λ i. i + 1) e in (
+      h.0.number ∙ sym e ∙ here,
+      do_ahead r s (n + 1) us (keys ++ u.key ∷ []) rest h.1 next
+          (subst (λ ks. Ahead ks rest) (sym (append_assoc keys (u.key ∷ []) (unit_keys us))) a),
+    )
 
 -- and they are none of another delivery
-unit_is_not_of : (r s r' s' n : ℕ) (u : BootUnit) → IsUnit r s n u → (r == r' && s == s') ≡ false → is_of r' s' u.key ≡ false
-unit_is_not_of r s r' s' n u h other = ap (λ i. i == r' && u.key.ticket.serial == s') h.route ∙ ap (λ i. r == r' && i == s') h.serial ∙ other
+unit_is_not_of : (r s r' s' n : ℕ) (u : BootUnit) → IsUnit r s n u → (r == r' && s == s') ≡ false
+    → is_of r' s' u.key ≡ false
+unit_is_not_of r s r' s' n u h other =
+    ap (λ i. i == r' && u.key.ticket.serial == s') h.route
+    ∙ ap (λ i. r == r' && i == s') h.serial ∙ other
 
-pub count_apart : (r s r' s' n : ℕ) (us : List BootUnit) (keys : List UnitKey) → Numbered r s n us → (r == r' && s == s') ≡ false → count r' s' (keys ++ unit_keys us) ≡ count r' s' keys
+pub count_apart : (r s r' s' n : ℕ) (us : List BootUnit) (keys : List UnitKey) → Numbered r s n us
+    → (r == r' && s == s') ≡ false → count r' s' (keys ++ unit_keys us) ≡ count r' s' keys
 count_apart r s r' s' n [] keys h other = ap (count r' s') (append-nil keys)
 count_apart r s r' s' n (u ∷ us) keys h other =
     ap (count r' s') (sym (append_assoc keys (u.key ∷ []) (unit_keys us)))
@@ -170,15 +243,21 @@ count_apart r s r' s' n (u ∷ us) keys h other =
     ∙ count_other r' s' keys u.key (unit_is_not_of r s r' s' n u h.0 other)
 
 -- where nothing is open, the spent units of a file are all that there are
-pub spent_all : (list : List Element) (serial : ℕ) → NoneOpen list → spent list serial ≡ count 1 serial (keys_of list)
-spent_all list serial none = ap length (all_closed list none) ∙ sym (counted_alike (is_of 1 serial) list)
+pub spent_all : (list : List Element) (serial : ℕ) → NoneOpen list
+    → spent list serial ≡ count 1 serial (keys_of list)
+spent_all list serial none =
+    ap length (all_closed list none) ∙ sym (counted_alike (is_of 1 serial) list)
   where
     and_true : (b c : Bool) → c ≡ false → (b && not c) ≡ b
     and_true true c e = ap not e
     and_true false c e = refl
 
-    all_closed : (xs : List Element) → NoneOpen xs → filter (λ e. is_of 1 serial e.key && is_closed e) xs ≡ filter (λ e. is_of 1 serial e.key) xs
+    all_closed : (xs : List Element) → NoneOpen xs
+        → filter (λ e. is_of 1 serial e.key && is_closed e) xs
+        ≡ filter (λ e. is_of 1 serial e.key) xs
     all_closed [] h = refl
     all_closed (x ∷ xs) h =
-        ap (λ b. cond b (x ∷ filter (λ e. is_of 1 serial e.key && is_closed e) xs) (filter (λ e. is_of 1 serial e.key && is_closed e) xs)) (and_true (is_of 1 serial x.key) (is_open x) h.0)
+        ap (λ b. cond b (x ∷ filter (λ e. is_of 1 serial e.key && is_closed e) xs)
+        (filter (λ e. is_of 1 serial e.key && is_closed e) xs))
+        (and_true (is_of 1 serial x.key) (is_open x) h.0)
         ∙ ap (λ ys. cond (is_of 1 serial x.key) (x ∷ ys) ys) (all_closed xs h.1)

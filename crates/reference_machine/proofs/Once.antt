@@ -24,32 +24,52 @@ abbrev pub AllOnce : Outcome → List Outcome → Type 0
 AllOnce o [] = Unit {0}
 AllOnce o (p ∷ ps) = ((p ≡ o) ⊎ (IsNoFault p.0.answer → ⊥)) × AllOnce o ps
 
-once_in : (o : Outcome) (ps : List Outcome) (x : Outcome) → AllOnce o ps → IsIn x ps → IsNoFault x.0.answer → x ≡ o
+once_in : (o : Outcome) (ps : List Outcome) (x : Outcome) → AllOnce o ps → IsIn x ps
+    → IsNoFault x.0.answer → x ≡ o
 once_in o [] x all is h = absurd is
 once_in o (p ∷ ps) x (inl e, all) (inl i) h = i ∙ e
-once_in o (p ∷ ps) x (inr faulty, all) (inl i) h = absurd (faulty (subst (λ (y : Outcome). IsNoFault y.0.answer) i h))
+once_in o (p ∷ ps) x (inr faulty, all) (inl i) h =
+    absurd (faulty (subst (λ (y : Outcome). IsNoFault y.0.answer) i h))
 once_in o (p ∷ ps) x all (inr i) h = once_in o ps x all.1 i h
 
 once_test : (o : Outcome) (ps : List Outcome) (t : Bool) → AllOnce o ps → AllOnce o (cond t ps [])
 once_test o ps true all = all
 once_test o ps false all = tt
 
-once_test_not : (o : Outcome) (ps : List Outcome) (t : Bool) → AllOnce o ps → AllOnce o (cond t [] ps)
+once_test_not : (o : Outcome) (ps : List Outcome) (t : Bool) → AllOnce o ps
+    → AllOnce o (cond t [] ps)
 once_test_not o ps true all = tt
 once_test_not o ps false all = all
 
 -- a boot with nothing open does not ask what a device holds
 boot_by : Formats → Machine → List BootTask → BootState
-boot_by f m w = after_steps f (2 * length w) (record { machine = m; left = w; report = record { opened = Some m.batches; steps = 0; lines = []; unstaged = []; removed = []; pending = None } })
+boot_by f m w =
+    after_steps f (2 * length w)
+    (record {
+      machine = m;
+      left = w;
+      report = record {
+        opened = Some m.batches;
+        steps = 0;
+        lines = [];
+        unstaged = [];
+        removed = [];
+        pending = None;
+      };
+    })
 
-same_boot : (f : Formats) (m : Machine) (h : End) → Rests m.board m.list → boot_of f m h ≡ boot_of f m Sealed
+same_boot : (f : Formats) (m : Machine) (h : End) → Rests m.board m.list
+    → boot_of f m h ≡ boot_of f m Sealed
 unfolding boot_by
 same_boot f m h r =
-    let a : boot_tasks f m h ≡ tasks_with f m h None = ap (tasks_with f m h) (find_none m.list r.none) in
-    let b : boot_tasks f m Sealed ≡ tasks_with f m Sealed None = ap (tasks_with f m Sealed) (find_none m.list r.none) in
+    let a : boot_tasks f m h ≡ tasks_with f m h None =
+    ap (tasks_with f m h) (find_none m.list r.none) in
+    let b : boot_tasks f m Sealed ≡ tasks_with f m Sealed None =
+    ap (tasks_with f m Sealed) (find_none m.list r.none) in
     ap (boot_by f m) (a ∙ sym b)
 
-boot_once : (f : Formats) (m : Machine) (h : End) → Rests m.board m.list → boot_done (boot_of f m h) ≡ outcome f m Boot
+boot_once : (f : Formats) (m : Machine) (h : End) → Rests m.board m.list
+    → boot_done (boot_of f m h) ≡ outcome f m Boot
 boot_once f m h r = ap boot_done (same_boot f m h r)
 
 -- a boot that was stopped tells a fault
@@ -58,7 +78,8 @@ stop_tells StopCause.Flash end e h = subst IsNoFaultEnd e h
 stop_tells StopCause.Volume end e h = subst IsNoFaultEnd e h
 stop_tells StopCause.Memory end e h = absurd e
 
-stopped_tells : (f : Formats) (m : Machine) (act : Act) (entry : EntryValue) (new : Machine) → IsStopped f m act entry new → IsNoFault entry.answer → ⊥
+stopped_tells : (f : Formats) (m : Machine) (act : Act) (entry : EntryValue) (new : Machine)
+    → IsStopped f m act entry new → IsNoFault entry.answer → ⊥
 stopped_tells f m (Time moment) entry new s h = absurd s
 stopped_tells f m (Drop file bytes) entry new s h = absurd s
 stopped_tells f m Signal entry new s h = absurd s
@@ -71,67 +92,95 @@ stopped_tells f m Fail entry new s h = absurd s
 stopped_tells f m (Reset cold) entry new s h = absurd s
 stopped_tells f m Show entry new s h = absurd s
 
-stage_once : (m : Machine) (address : ℕ) (o : Outcome) (r : Option AnswerValue) → AllOnce o (stage_faults m address r)
+stage_once : (m : Machine) (address : ℕ) (o : Outcome) (r : Option AnswerValue)
+    → AllOnce o (stage_faults m address r)
 stage_once m address o None = (inr (λ x. x), (inr (λ x. x), (inr (λ x. x), (inr (λ x. x), tt))))
 stage_once m address o (Some answer) = (inr (λ x. x), (inr (λ x. x), (inr (λ x. x), tt)))
 
-others_once : (f : Formats) (m : Machine) (act : Act) → Quiet m → AllOnce (outcome f m act) (other_outcomes f m act)
+others_once : (f : Formats) (m : Machine) (act : Act) → Quiet m
+    → AllOnce (outcome f m act) (other_outcomes f m act)
 others_once f m (Time moment) q = tt
-others_once f m (Drop file bytes) q = (inr (λ x. x), once_test_not (outcome f m (Drop file bytes)) _ (is_folder_full m file) (inr (λ x. x), tt))
+others_once f m (Drop file bytes) q = (
+  inr (λ x. x),
+  once_test_not (outcome f m (Drop file bytes)) _ (is_folder_full m file bytes)
+      (inr (λ x. x), tt),
+)
 others_once f m Signal q = (inr (λ x. x), (inr (λ x. x), (inr (λ x. x), (inr (λ x. x), tt))))
 others_once f m (Lay address bytes) q = tt
-others_once f m (Stage address) q = stage_once m address (outcome f m (Stage address)) (stage_refusal f m address)
-others_once f m Boot q = (inr (λ x. x), (inl (boot_once f m Kept q.rests), (inl (boot_once f m Lost q.rests), tt)))
+others_once f m (Stage address) q =
+    stage_once m address (outcome f m (Stage address)) (stage_refusal f m address)
+others_once f m Boot q =
+    (inr (λ x. x), (inl (boot_once f m Kept q.rests), (inl (boot_once f m Lost q.rests), tt)))
 others_once f m Arm q = tt
 others_once f m Fail q = tt
 others_once f m (Reset true) q = tt
 others_once f m (Reset false) q =
-    subst (λ t. AllOnce (outcome f m (Reset false)) (cond t ((plain AnswerValue.Done, cold m) ∷ []) [])) (sym q.well) tt
+    subst (λ t. AllOnce (outcome f m (Reset false))
+    (cond t ((plain AnswerValue.Done, cold m) ∷ []) [])) (sym q.well) tt
 others_once f m Show q = (inr (λ x. x), (inr (λ x. x), tt))
 
 -- an event that tells no fault has its one outcome
-pub step_once : (f : Formats) (m : Machine) (act : Act) (said : EntryValue) (new : Machine) → Quiet m → Step f m act said new → IsNoFault said.answer → (said, new) ≡ outcome f m act
-step_once f m act said new q (inl s) h = once_in (outcome f m act) (outcome f m act ∷ other_outcomes f m act) (said, new) (inl refl, others_once f m act q) s h
+pub step_once : (f : Formats) (m : Machine) (act : Act) (said : EntryValue) (new : Machine)
+    → Quiet m → Step f m act said new → IsNoFault said.answer → (said, new) ≡ outcome f m act
+step_once f m act said new q (inl s) h =
+    once_in (outcome f m act) (outcome f m act ∷ other_outcomes f m act) (said, new)
+    (inl refl, others_once f m act q) s h
 step_once f m act said new q (inr s) h = absurd (stopped_tells f m act said new s h)
 
-drop_quiet : (m : Machine) (file bytes : List ℕ) (full : Bool) → Quiet m → Quiet (cond {A = Outcome} full (plain AnswerValue.Full, m) (plain (AnswerValue.Serial (m.last_file + 1)), with_file m file bytes)).1
+drop_quiet : (m : Machine) (file bytes : List ℕ) (full : Bool) → Quiet m
+    → Quiet (cond {A = Outcome} full (plain AnswerValue.Full, m)
+    (plain (AnswerValue.Serial (m.last_file + 1)), with_file m file bytes)).1
 drop_quiet m file bytes true q = q
 drop_quiet m file bytes false q = record { rests = q.rests; well = q.well }
 
-lay_quiet : (m : Machine) (address : ℕ) (bytes : List ℕ) (w full : Bool) → Quiet m → Quiet (cond {A = Outcome} w (plain AnswerValue.Wraps, m) (cond full (plain AnswerValue.Full, m) (plain AnswerValue.Done, with_segment m address bytes))).1
+lay_quiet : (m : Machine) (address : ℕ) (bytes : List ℕ) (w full : Bool) → Quiet m
+    → Quiet (cond {A = Outcome} w (plain AnswerValue.Wraps, m)
+    (cond full (plain AnswerValue.Full, m)
+    (plain AnswerValue.Done, with_segment m address bytes))).1
 lay_quiet m address bytes true full q = q
 lay_quiet m address bytes false true q = q
 lay_quiet m address bytes false false q = record { rests = q.rests; well = q.well }
 
-stage_quiet : (m : Machine) (address : ℕ) (r : Option AnswerValue) → Quiet m → Quiet (stage_done m address r).1
+stage_quiet : (m : Machine) (address : ℕ) (r : Option AnswerValue) → Quiet m
+    → Quiet (stage_done m address r).1
 stage_quiet m address None q = record { rests = q.rests; well = q.well }
 stage_quiet m address (Some answer) q = q
 
 outcome_quiet : (f : Formats) (m : Machine) (act : Act) → Quiet m → Quiet (outcome f m act).1
 outcome_quiet f m (Time moment) q = record { rests = q.rests; well = q.well }
-outcome_quiet f m (Drop file bytes) q = drop_quiet m file bytes (is_folder_full m file) q
+outcome_quiet f m (Drop file bytes) q = drop_quiet m file bytes (is_folder_full m file bytes) q
 outcome_quiet f m Signal q = record { rests = q.rests; well = q.well }
-outcome_quiet f m (Lay address bytes) q = lay_quiet m address bytes (wraps address bytes) (is_memory_full m bytes) q
+outcome_quiet f m (Lay address bytes) q =
+    lay_quiet m address bytes (wraps address bytes) (is_memory_full m bytes) q
 outcome_quiet f m (Stage address) q = stage_quiet m address (stage_refusal f m address) q
 outcome_quiet f m Boot q =
-    record { rests = boot_rests f m Sealed tt (inl q.rests); well = steps_failed f (2 * length (boot_tasks f m Sealed)) (boot_start f m Sealed) ∙ q.well }
+    record {
+      rests = boot_rests f m Sealed tt (inl q.rests);
+      well = steps_failed f (2 * length (boot_tasks f m Sealed)) (boot_start f m Sealed)
+          ∙ q.well;
+    }
 outcome_quiet f m Arm q = q
 outcome_quiet f m Fail q = q
 outcome_quiet f m (Reset true) q = record { rests = q.rests; well = refl }
 outcome_quiet f m (Reset false) q = record { rests = q.rests; well = refl }
 outcome_quiet f m Show q = q
 
-pub run_once : (f : Formats) (m : Machine) (acts : List Act) (told : List EntryValue) (new : Machine) → Quiet m → Run f m acts told new → TellNoFault told → (told ≡ trace_of f m acts) × (new ≡ machine_after f m acts)
+pub run_once : (f : Formats) (m : Machine) (acts : List Act) (told : List EntryValue)
+    (new : Machine) → Quiet m → Run f m acts told new → TellNoFault told
+    → (told ≡ trace_of f m acts) × (new ≡ machine_after f m acts)
 run_once f m [] [] new q r h = (refl, r)
 run_once f m [] (said ∷ rest) new q r h = absurd r
 run_once f m (act ∷ acts) [] new q r h = absurd r
 run_once f m (act ∷ acts) (said ∷ rest) new q r h =
     let e : (said, r.0) ≡ outcome f m act = step_once f m act said r.0 q r.1 h.0 in
-    let between : Run f (outcome f m act).1 acts rest new = subst (λ (o : Outcome). Run f o.1 acts rest new) e r.2 in
-    let later = run_once f (outcome f m act).1 acts rest new (outcome_quiet f m act q) between h.1 in
+    let between : Run f (outcome f m act).1 acts rest new =
+    subst (λ (o : Outcome). Run f o.1 acts rest new) e r.2 in
+    let later = run_once f (outcome f m act).1 acts rest new
+    (outcome_quiet f m act q) between h.1 in
     (ap (λ (o : Outcome). o.0 ∷ rest) e ∙ ap (λ xs. (outcome f m act).0 ∷ xs) later.0, later.1)
 
 -- and there is such a run
-pub run_is : (f : Formats) (m : Machine) (acts : List Act) → Run f m acts (trace_of f m acts) (machine_after f m acts)
+pub run_is : (f : Formats) (m : Machine) (acts : List Act)
+    → Run f m acts (trace_of f m acts) (machine_after f m acts)
 run_is f m [] = refl
 run_is f m (act ∷ acts) = ((outcome f m act).1, inl (inl refl), run_is f (outcome f m act).1 acts)

@@ -29,11 +29,13 @@ sound_keeps f = record {
   stages = λ m address e p. p;
   cold = λ m p. p;
   warm = λ m p. p;
-  boots = λ m h j held p. sound_of (boot_at f m h j).machine (boot_at f m h j).left (boot_going f m h j held p);
+  boots = λ m h j held p. sound_of (boot_at f m h j).machine (boot_at f m h j).left
+      (boot_going f m h j held p);
 }
 
 pub reached_sound : (f : Formats) (board : BoardValue) (m : Machine) → IsReached f board m → Sound m
-reached_sound f board m r = reached_keeps f Sound (sound_keeps f) board m (inl (record { none = tt; above = tt })) r
+reached_sound f board m r =
+    reached_keeps f Sound (sound_keeps f) board m (inl (record { none = tt; above = tt })) r
 
 last_of : (m : Machine) → Sound m → OpenIsLast m.list
 last_of m (inl r) = rests_last m.board m.list r
@@ -43,23 +45,30 @@ floor_of_attempts : (m : Machine) → Sound m → AttemptsReachFloor m.board m.l
 floor_of_attempts m (inl r) = reach_floor m.board m.list r.above
 floor_of_attempts m (inr p) = reach_floor m.board m.list p.above
 
-pub open_last : (f : Formats) (board : BoardValue) (m : Machine) → IsReached f board m → OpenIsLast m.list
+pub open_last : (f : Formats) (board : BoardValue) (m : Machine) → IsReached f board m
+    → OpenIsLast m.list
 open_last f board m r = last_of m (reached_sound f board m r)
 
-pub attempts : (f : Formats) (board : BoardValue) (m : Machine) → IsReached f board m → AttemptsReachFloor m.board m.list
+pub attempts : (f : Formats) (board : BoardValue) (m : Machine) → IsReached f board m
+    → AttemptsReachFloor m.board m.list
 attempts f board m r = floor_of_attempts m (reached_sound f board m r)
 
 pub apart : (f : Formats) (board : BoardValue) (m : Machine) → IsReached f board m → AreApart m
-apart f board m r = reached_keeps f AreApart (apart_keeps f) board m (record { names = tt; files = tt; last_file = tt; staged = tt; last_staged = tt }) r
+apart f board m r =
+    reached_keeps f AreApart (apart_keeps f) board m
+    (record { names = tt; files = tt; last_file = tt; staged = tt; last_staged = tt }) r
 
 -- a fresh board is quiet
 pub fresh_quiet : (board : BoardValue) → Quiet (fresh board)
 fresh_quiet board = record { rests = record { none = tt; above = tt }; well = refl }
 
-pub one : (f : Formats) (board : BoardValue) (acts : List Act) (told : List EntryValue) (m : Machine) → Run f (fresh board) acts told m → TellNoFault told → (told ≡ trace_of f (fresh board) acts) × (m ≡ machine_after f (fresh board) acts)
+pub one : (f : Formats) (board : BoardValue) (acts : List Act) (told : List EntryValue)
+    (m : Machine) → Run f (fresh board) acts told m → TellNoFault told
+    → (told ≡ trace_of f (fresh board) acts) × (m ≡ machine_after f (fresh board) acts)
 one f board acts told m r h = run_once f (fresh board) acts told m (fresh_quiet board) r h
 
-pub some : (f : Formats) (board : BoardValue) (acts : List Act) → Run f (fresh board) acts (trace_of f (fresh board) acts) (machine_after f (fresh board) acts)
+pub some : (f : Formats) (board : BoardValue) (acts : List Act)
+    → Run f (fresh board) acts (trace_of f (fresh board) acts) (machine_after f (fresh board) acts)
 some f board acts = run_is f (fresh board) acts
 
 -- the units of each delivery stand in order
@@ -72,10 +81,12 @@ orderly f board m r =
     } in
     reached_keeps f Orderly (orderly_keeps f) board m start r
 
-pub stand_in_order : (f : Formats) (board : BoardValue) (m : Machine) → IsReached f board m → StandInOrder m.list
+pub stand_in_order : (f : Formats) (board : BoardValue) (m : Machine) → IsReached f board m
+    → StandInOrder m.list
 stand_in_order f board m r = in_order m.list (orderly f board m r).keyed.gapless
 
-pub keys_apart : (f : Formats) (board : BoardValue) (m : Machine) → IsReached f board m → HaveDistinctKeys m.list
+pub keys_apart : (f : Formats) (board : BoardValue) (m : Machine) → IsReached f board m
+    → HaveDistinctKeys m.list
 keys_apart f board m r = distinct_keys m.list (orderly f board m r).keyed.gapless
 
 -- files, staged deliveries and kept serials are within their limits
@@ -94,27 +105,39 @@ limited f board m r =
     } in
     reached_keeps f Limited (limited_keeps f) board m start r
 
-pub spends : (f : Formats) (board : BoardValue) (m : Machine) → IsReached f board m → SpentFilesHaveProgress m
+pub spends : (f : Formats) (board : BoardValue) (m : Machine) → IsReached f board m
+    → SpentFilesHaveProgress m
 spends f board m r = (limited f board m r).filed.spends
 
-pub within : (f : Formats) (board : BoardValue) (m : Machine) → IsReached f board m → IsWithinLimits m
+pub within : (f : Formats) (board : BoardValue) (m : Machine) → IsReached f board m
+    → IsWithinLimits m
 within f board m r = within_limits m (limited f board m r)
 
-pub given : (f : Formats) (board : BoardValue) (m : Machine) → IsReached f board m → SerialsAreGiven m
+pub given : (f : Formats) (board : BoardValue) (m : Machine) → IsReached f board m
+    → SerialsAreGiven m
 given f board m r = serials_given m (limited f board m r) (orderly f board m r).keyed
 
 -- a boot of a reached machine is short
-same_board : (f : Formats) (board : BoardValue) (m : Machine) → IsReached f board m → m.board ≡ board
-same_board f board m r = reached_keeps f (λ (x : Machine). x.board ≡ board) (board_keeps f board) board m refl r
+same_board : (f : Formats) (board : BoardValue) (m : Machine) → IsReached f board m
+    → m.board ≡ board
+same_board f board m r =
+    reached_keeps f (λ (x : Machine). x.board ≡ board) (board_keeps f board) board m refl r
 
-pub short : (f : Formats) (board : BoardValue) (m : Machine) → KeepsLimits f → IsBoard board → IsReached f board m → (h : End) (j : ℕ) → (boot_at f m h j).report.steps < 2 ^ 20
+pub short : (f : Formats) (board : BoardValue) (m : Machine) → KeepsLimits f → IsBoard board
+    → IsReached f board m → (h : End) (j : ℕ) → (boot_at f m h j).report.steps < 2 ^ 20
 short f board m limits is r h j =
     let few : length board.devices ≤ 16 = omega (arith, is.devices) in
-    boot_short f limits m h j (subst (λ (b : BoardValue). length b.devices ≤ 16) (sym (same_board f board m r)) few) (within f board m r)
+    boot_short f limits m h j
+    (subst (λ (b : BoardValue). length b.devices ≤ 16) (sym (same_board f board m r)) few)
+    (within f board m r)
 
 -- the list grows by each event, and by the steps of a boot
-pub events_grow : (f : Formats) (board : BoardValue) (m : Machine) → IsReached f board m → (act : Act) (entry : EntryValue) (new : Machine) → Step f m act entry new → Grows m.list new.list
-events_grow f board m r act entry new s = event_grows f m act entry new (reached_sound f board m r) s
+pub events_grow : (f : Formats) (board : BoardValue) (m : Machine) → IsReached f board m
+    → (act : Act) (entry : EntryValue) (new : Machine) → Step f m act entry new
+    → Grows m.list new.list
+events_grow f board m r act entry new s =
+    event_grows f m act entry new (reached_sound f board m r) s
 
-pub boots_grow : (f : Formats) (board : BoardValue) (m : Machine) → IsReached f board m → (h : End) (j : ℕ) → Grows m.list (boot_at f m h j).machine.list
+pub boots_grow : (f : Formats) (board : BoardValue) (m : Machine) → IsReached f board m
+    → (h : End) (j : ℕ) → Grows m.list (boot_at f m h j).machine.list
 boots_grow f board m r h j = boot_grows f m h j (reached_sound f board m r)

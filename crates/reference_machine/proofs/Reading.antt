@@ -20,23 +20,31 @@ use Rattle.reference_machine.specs.Stops.{StopCause, Agrees, IsHeldEnd, is_folde
 use Rattle.reference_machine.specs.Verdicts.{refusal_with, is_admitted, capacity_of, keeps_dependencies}
 
 -- no boot is stopped by the volume before its heal
-heal_first : (f : Formats) (m : Machine) (h : End) (e : Element) (n : ℕ) → find is_open m.list ≡ Some e → list_all is_folder_task (boot_at f m h n).left ≡ true → 0 < n
+heal_first : (f : Formats) (m : Machine) (h : End) (e : Element) (n : ℕ)
+    → find is_open m.list ≡ Some e → list_all is_folder_task (boot_at f m h n).left ≡ true → 0 < n
 heal_first f m h e zero is in_folder =
     let tasks : boot_tasks f m h ≡ tasks_with f m h (Some e) = ap (tasks_with f m h) is in
-    absurd (let no : false ≡ true = subst (λ (w : List BootTask). list_all is_folder_task w ≡ true) tasks in_folder in cc)
+    absurd (let no : false
+    ≡ true = subst
+    (λ (w : List BootTask). list_all is_folder_task w ≡ true) tasks in_folder in cc)
 heal_first f m h e (suc n) is in_folder = omega arith
 
 left_of : (a b : Bool) → IsTrue (a && b) → a ≡ true
 left_of true b h = refl
 left_of false b h = cc
 
-pub healed_before : (f : Formats) (m : Machine) (h : End) (r : ReportValue) (new : Machine) (e : Element) → find is_open m.list ≡ Some e → Agrees f m h r StopCause.Volume new → 0 < r.steps
-healed_before f m h r new e is (tells, (asked, folder, either)) = heal_first f m h e r.steps is (left_of _ _ folder)
+pub healed_before : (f : Formats) (m : Machine) (h : End) (r : ReportValue) (new : Machine)
+    (e : Element) → find is_open m.list ≡ Some e → Agrees f m h r StopCause.Volume new → 0 < r.steps
+healed_before f m h r new e is (tells, (asked, folder, either)) =
+    heal_first f m h e r.steps is (left_of _ _ folder)
 
 -- the machines of an event that is cut off are reached
-stops_reach : (f : Formats) (board : BoardValue) (m : Machine) (h : End) → IsReached f board m → IsHeldEnd h → (js : List ℕ) (new : Machine) → IsIn new (map (λ j. (boot_at f m h j).machine) js) → IsReached f board new
+stops_reach : (f : Formats) (board : BoardValue) (m : Machine) (h : End) → IsReached f board m
+    → IsHeldEnd h → (js : List ℕ) (new : Machine)
+    → IsIn new (map (λ j. (boot_at f m h j).machine) js) → IsReached f board new
 stops_reach f board m h r held [] new is = absurd is
-stops_reach f board m h r held (j ∷ js) new (inl e) = subst (IsReached f board) (sym e) (BySteps m h j r held)
+stops_reach f board m h r held (j ∷ js) new (inl e) =
+    subst (IsReached f board) (sym e) (BySteps m h j r held)
 stops_reach f board m h r held (j ∷ js) new (inr is) = stops_reach f board m h r held js new is
 
 in_append : {X : Type 0} (x : X) (ys zs : List X) → IsIn x (ys ++ zs) → IsIn x ys ⊎ IsIn x zs
@@ -54,20 +62,30 @@ AllHeld [] = Unit {0}
 AllHeld (h ∷ hs) = IsHeldEnd h × AllHeld hs
 
 module _ (f : Formats) (board : BoardValue) (m : Machine) (r : IsReached f board m) where
-  two_reach : (act : Act) (new : Machine) → IsIn new (m ∷ (outcome f m act).1 ∷ []) → IsReached f board new
+  two_reach : (act : Act) (new : Machine) → IsIn new (m ∷ (outcome f m act).1 ∷ [])
+      → IsReached f board new
   two_reach act new (inl e) = subst (IsReached f board) (sym e) r
-  two_reach act new (inr (inl e)) = subst (IsReached f board) (sym e) (ByEvent m act (outcome f m act).0 (outcome f m act).1 r (inl (inl refl)))
+  two_reach act new (inr (inl e)) =
+      subst (IsReached f board) (sym e)
+      (ByEvent m act (outcome f m act).0 (outcome f m act).1 r (inl (inl refl)))
   two_reach act new (inr (inr never)) = absurd never
 
-  boots_reach : (hs : List End) (new : Machine) → AllHeld hs → IsIn new (flat_map (stops f m) hs) → IsReached f board new
+  boots_reach : (hs : List End) (new : Machine) → AllHeld hs → IsIn new (flat_map (stops f m) hs)
+      → IsReached f board new
   boots_reach [] new held is = absurd is
-  boots_reach (h ∷ hs) new held is = by_side (λ k. boots_reach hs new held.1 k) (in_append new (stops f m h) (flat_map (stops f m) hs) is)
+  boots_reach (h ∷ hs) new held is =
+      by_side (λ k. boots_reach hs new held.1 k)
+      (in_append new (stops f m h) (flat_map (stops f m) hs) is)
     where
-      by_side : (IsIn new (flat_map (stops f m) hs) → IsReached f board new) → IsIn new (stops f m h) ⊎ IsIn new (flat_map (stops f m) hs) → IsReached f board new
-      by_side later (inl k) = stops_reach f board m h r held.0 (range_with_len 0 ((boot_of f m h).report.steps + 1)) new k
+      by_side : (IsIn new (flat_map (stops f m) hs) → IsReached f board new)
+          → IsIn new (stops f m h) ⊎ IsIn new (flat_map (stops f m) hs) → IsReached f board new
+      by_side later (inl k) =
+          stops_reach f board m h r held.0
+          (range_with_len 0 ((boot_of f m h).report.steps + 1)) new k
       by_side later (inr k) = later k
 
-  pub cut_reach : (act : Act) (new : Machine) → IsIn new (cut_machines f m act) → IsReached f board new
+  pub cut_reach : (act : Act) (new : Machine) → IsIn new (cut_machines f m act)
+      → IsReached f board new
   cut_reach (Time moment) new is = two_reach (Time moment) new is
   cut_reach (Drop file bytes) new is = two_reach (Drop file bytes) new is
   cut_reach Signal new is = two_reach Signal new is
@@ -104,14 +122,18 @@ is_below a b h = grind (arith, nat_tests)
 not_at_most : (a b : ℕ) → b < a → nat_le a b ≡ false
 not_at_most a b h = grind (arith, nat_tests)
 
-pub memory_full : (m : Machine) (bytes : List ℕ) → is_memory_full m bytes ≡ true ↔ IsPastMemory m bytes
+pub memory_full : (m : Machine) (bytes : List ℕ)
+    → is_memory_full m bytes ≡ true ↔ IsPastMemory m bytes
 memory_full m bytes = (λ h. there (or_true _ _ h), λ h. true_or _ _ (back h))
   where
-    there : (nat_le MAX_SEGMENTS (length m.memory) ≡ true) ⊎ (nat_lt MAX_MEMORY_BYTES (laid_bytes m + length bytes) ≡ true) → IsPastMemory m bytes
+    there : (nat_le MAX_SEGMENTS (length m.memory) ≡ true)
+        ⊎ (nat_lt MAX_MEMORY_BYTES (laid_bytes m + length bytes) ≡ true) → IsPastMemory m bytes
     there (inl h) = inl (at_most _ _ h)
     there (inr h) = inr (below _ _ h)
 
-    back : IsPastMemory m bytes → (nat_le MAX_SEGMENTS (length m.memory) ≡ true) ⊎ (nat_lt MAX_MEMORY_BYTES (laid_bytes m + length bytes) ≡ true)
+    back : IsPastMemory m bytes
+        → (nat_le MAX_SEGMENTS (length m.memory) ≡ true)
+        ⊎ (nat_lt MAX_MEMORY_BYTES (laid_bytes m + length bytes) ≡ true)
     back (inl h) = inl (is_at_most _ _ h)
     back (inr h) = inr (is_below _ _ h)
 
@@ -123,19 +145,28 @@ module _ (f : Formats) (m : Machine) (u : BootUnit) (p : Parts) where
   pub admission_fails : is_admitted m.board u.image ≡ false → refusal_with f m u (Some p) ≡ Some 5
   admission_fails a = rw a refl
 
-  pub capacity_fails : is_admitted m.board u.image ≡ true → capacity_of m.board u.key.device < length p.payload → refusal_with f m u (Some p) ≡ Some 2
+  pub capacity_fails : is_admitted m.board u.image ≡ true
+      → capacity_of m.board u.key.device < length p.payload → refusal_with f m u (Some p) ≡ Some 2
   capacity_fails a h =
-      let c : nat_le (length p.payload) (capacity_of m.board u.key.device) ≡ false = not_at_most _ _ h in
+      let c : nat_le (length p.payload) (capacity_of m.board u.key.device) ≡ false =
+      not_at_most _ _ h in
       rw (a, c) refl
 
-  pub version_fails : is_admitted m.board u.image ≡ true → length p.payload ≤ capacity_of m.board u.key.device → p.version < floor_of m.board m.list u.key.device → refusal_with f m u (Some p) ≡ Some 3
+  pub version_fails : is_admitted m.board u.image ≡ true
+      → length p.payload ≤ capacity_of m.board u.key.device
+      → p.version < floor_of m.board m.list u.key.device → refusal_with f m u (Some p) ≡ Some 3
   version_fails a h k =
-      let c : nat_le (length p.payload) (capacity_of m.board u.key.device) ≡ true = is_at_most _ _ h in
+      let c : nat_le (length p.payload) (capacity_of m.board u.key.device) ≡ true =
+      is_at_most _ _ h in
       let v : nat_le (floor_of m.board m.list u.key.device) p.version ≡ false = not_at_most _ _ k in
       rw (a, c, v) refl
 
-  pub last_decides : is_admitted m.board u.image ≡ true → length p.payload ≤ capacity_of m.board u.key.device → floor_of m.board m.list u.key.device ≤ p.version → refusal_with f m u (Some p) ≡ cond (keeps_dependencies f m u.key.device p) None (Some 8)
+  pub last_decides : is_admitted m.board u.image ≡ true
+      → length p.payload ≤ capacity_of m.board u.key.device
+      → floor_of m.board m.list u.key.device ≤ p.version
+      → refusal_with f m u (Some p) ≡ cond (keeps_dependencies f m u.key.device p) None (Some 8)
   last_decides a h k =
-      let c : nat_le (length p.payload) (capacity_of m.board u.key.device) ≡ true = is_at_most _ _ h in
+      let c : nat_le (length p.payload) (capacity_of m.board u.key.device) ≡ true =
+      is_at_most _ _ h in
       let v : nat_le (floor_of m.board m.list u.key.device) p.version ≡ true = is_at_most _ _ k in
       rw (a, c, v) refl

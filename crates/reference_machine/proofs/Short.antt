@@ -26,28 +26,35 @@ use Rattle.reference_machine.proofs.SpentFiles.{settled_files}
 use Rattle.reference_machine.proofs.Keyed.{settled_staged}
 
 -- the board stays
-settled_board : (m : Machine) (end : End) (o : Option Element) → (settled_with m end o).board ≡ m.board
+settled_board : (m : Machine) (end : End) (o : Option Element)
+    → (settled_with m end o).board ≡ m.board
 settled_board m end None = refl
 settled_board m end (Some e) = refl
 
-unit_board : (f : Formats) (b : BootState) (u : BootUnit) (rest : List BootTask) (c : Course) → (after_unit f b u rest c).machine.board ≡ b.machine.board
+unit_board : (f : Formats) (b : BootState) (u : BootUnit) (rest : List BootTask) (c : Course)
+    → (after_unit f b u rest c).machine.board ≡ b.machine.board
 unit_board f b u rest Claim = refl
 unit_board f b u rest (Close end) = refl
 
-after_board : (f : Formats) (b : BootState) (left : List BootTask) → (after f b left).machine.board ≡ b.machine.board
+after_board : (f : Formats) (b : BootState) (left : List BootTask)
+    → (after f b left).machine.board ≡ b.machine.board
 after_board f b [] = refl
-after_board f b (Settles kind end ∷ rest) = settled_board b.machine end (find is_open b.machine.list)
+after_board f b (Settles kind end ∷ rest) =
+    settled_board b.machine end (find is_open b.machine.list)
 after_board f b (Unstages pair ∷ rest) = refl
 after_board f b (Does u ∷ rest) = unit_board f b u rest (course_of f b.machine u u.kind)
 after_board f b (Prunes ∷ rest) = refl
 after_board f b (Removes serial ∷ rest) = refl
 after_board f b (Clears ∷ rest) = refl
 
-steps_board : (f : Formats) (n : ℕ) (b : BootState) → (after_steps f n b).machine.board ≡ b.machine.board
+steps_board : (f : Formats) (n : ℕ) (b : BootState)
+    → (after_steps f n b).machine.board ≡ b.machine.board
 steps_board f zero b = refl
-steps_board f (suc n) b = after_board f (after_steps f n b) (after_steps f n b).left ∙ steps_board f n b
+steps_board f (suc n) b =
+    after_board f (after_steps f n b) (after_steps f n b).left ∙ steps_board f n b
 
-pub boot_board : (f : Formats) (m : Machine) (h : End) (j : ℕ) → (boot_at f m h j).machine.board ≡ m.board
+pub boot_board : (f : Formats) (m : Machine) (h : End) (j : ℕ)
+    → (boot_at f m h j).machine.board ≡ m.board
 boot_board f m h j = steps_board f j (boot_start f m h)
 
 pub board_keeps : (f : Formats) (board : BoardValue) → Keeps f (λ m. m.board ≡ board)
@@ -64,11 +71,14 @@ board_keeps f board = record {
 }
 
 -- a step is told, and leaves as much less
-unit_weighs : (f : Formats) (b : BootState) (u : BootUnit) (rest : List BootTask) (c : Course) → (after_unit f b u rest c).report.steps + weight (after_unit f b u rest c).left ≤ b.report.steps + (weight rest + 2)
+unit_weighs : (f : Formats) (b : BootState) (u : BootUnit) (rest : List BootTask) (c : Course)
+    → (after_unit f b u rest c).report.steps + weight (after_unit f b u rest c).left
+    ≤ b.report.steps + (weight rest + 2)
 unit_weighs f b u rest Claim = omega arith
 unit_weighs f b u rest (Close end) = omega arith
 
-after_weighs : (f : Formats) (b : BootState) (left : List BootTask) → b.left ≡ left → (after f b left).report.steps + weight (after f b left).left ≤ b.report.steps + weight left
+after_weighs : (f : Formats) (b : BootState) (left : List BootTask) → b.left ≡ left
+    → (after f b left).report.steps + weight (after f b left).left ≤ b.report.steps + weight left
 after_weighs f b [] e = let h : weight b.left ≡ 0 = ap weight e in omega arith
 after_weighs f b (Settles kind end ∷ rest) e = omega arith
 after_weighs f b (Unstages pair ∷ rest) e = omega arith
@@ -77,35 +87,50 @@ after_weighs f b (Prunes ∷ rest) e = omega arith
 after_weighs f b (Removes serial ∷ rest) e = omega arith
 after_weighs f b (Clears ∷ rest) e = omega arith
 
-steps_weigh : (f : Formats) (n : ℕ) (b : BootState) → (after_steps f n b).report.steps + weight (after_steps f n b).left ≤ b.report.steps + weight b.left
+steps_weigh : (f : Formats) (n : ℕ) (b : BootState)
+    → (after_steps f n b).report.steps + weight (after_steps f n b).left
+    ≤ b.report.steps + weight b.left
 steps_weigh f zero b = omega arith
 steps_weigh f (suc n) b =
-    let h : (after_steps f n b).report.steps + weight (after_steps f n b).left ≤ b.report.steps + weight b.left = steps_weigh f n b in
-    let k : (next f (after_steps f n b)).report.steps + weight (next f (after_steps f n b)).left ≤ (after_steps f n b).report.steps + weight (after_steps f n b).left = after_weighs f (after_steps f n b) (after_steps f n b).left refl in
+    let h : (after_steps f n b).report.steps + weight (after_steps f n b).left
+    ≤ b.report.steps + weight b.left = steps_weigh f n b in
+    let k : (next f (after_steps f n b)).report.steps + weight (next f (after_steps f n b)).left
+    ≤ (after_steps f n b).report.steps + weight (after_steps f n b).left =
+    after_weighs f (after_steps f n b) (after_steps f n b).left refl in
     omega arith
 
 -- lists end to end, of few items each
-few_each : {X Y : Type 0} (g : X → List Y) (most : ℕ) → ((x : X) → length (g x) ≤ most) → (xs : List X) → length (flat_map g xs) ≤ most * length xs
+few_each : {X Y : Type 0} (g : X → List Y) (most : ℕ) → ((x : X) → length (g x) ≤ most)
+    → (xs : List X) → length (flat_map g xs) ≤ most * length xs
 few_each g most h [] = omega arith
 few_each g most h (x ∷ xs) =
     let here : length (g x) ≤ most = h x in
     let later : length (flat_map g xs) ≤ most * length xs = few_each g most h xs in
-    let both : length (g x ++ flat_map g xs) ≡ length (g x) + length (flat_map g xs) = length-append (g x) (flat_map g xs) in
+    let both : length (g x ++ flat_map g xs) ≡ length (g x) + length (flat_map g xs) =
+    length-append (g x) (flat_map g xs) in
     omega arith
 
 -- the targets of an item are devices of the board
-targets_few : (h : ItemHead) (board : BoardValue) → length board.devices ≤ 16 → length (targets h board) ≤ 16
+targets_few : (h : ItemHead) (board : BoardValue) → length board.devices ≤ 16
+    → length (targets h board) ≤ 16
 targets_few h board few =
-    let met : List (ℕ × DeviceValue) = filter (λ (p : ℕ × DeviceValue). is_target h p.1) (enumerate_from 0 board.devices) in
-    let same : length (targets h board) ≡ length met = length-map met (λ (p : ℕ × DeviceValue). p.0) in
-    let most : length met ≤ length (enumerate_from 0 board.devices) = filter_most (λ (p : ℕ × DeviceValue). is_target h p.1) (enumerate_from 0 board.devices) in
-    let all : length (enumerate_from 0 board.devices) ≡ length board.devices = length-enumerate_from 0 board.devices in
+    let met : List (ℕ × DeviceValue) =
+    filter (λ (p : ℕ × DeviceValue). is_target h p.1) (enumerate_from 0 board.devices) in
+    let same : length (targets h board) ≡ length met =
+    length-map met (λ (p : ℕ × DeviceValue). p.0) in
+    let most : length met ≤ length (enumerate_from 0 board.devices) =
+    filter_most (λ (p : ℕ × DeviceValue). is_target h p.1) (enumerate_from 0 board.devices) in
+    let all : length (enumerate_from 0 board.devices) ≡ length board.devices =
+    length-enumerate_from 0 board.devices in
     omega arith
 
-item_few : (board : BoardValue) (n : ℕ) (guid : Guid) (p : ℕ × Item) → length board.devices ≤ 16 → length (item_pieces board n guid p) ≤ 16
-item_few board n guid (k, item) few = by_targets (targets item.head board) refl (targets_few item.head board few)
+item_few : (board : BoardValue) (n : ℕ) (guid : Guid) (p : ℕ × Item) → length board.devices ≤ 16
+    → length (item_pieces board n guid p) ≤ 16
+item_few board n guid (k, item) few =
+    by_targets (targets item.head board) refl (targets_few item.head board few)
   where
-    by_targets : (ts : List ℕ) → targets item.head board ≡ ts → length ts ≤ 16 → length (item_pieces board n guid (k, item)) ≤ 16
+    by_targets : (ts : List ℕ) → targets item.head board ≡ ts → length ts ≤ 16
+        → length (item_pieces board n guid (k, item)) ≤ 16
     by_targets [] e le = rw e (omega arith)
     by_targets (t ∷ ts) e le = rw (e, length-map) le
 
@@ -116,20 +141,28 @@ not_first false b h = h
 below_test : (limit n : ℕ) → nat_lt limit n ≡ false → n ≤ limit
 below_test limit n h = grind (arith, nat_tests)
 
-capsule_few : (board : BoardValue) (p : ℕ × Capsule) → length board.devices ≤ 16 → length (capsule_pieces board p) ≤ 256
+capsule_few : (board : BoardValue) (p : ℕ × Capsule) → length board.devices ≤ 16
+    → length (capsule_pieces board p) ≤ 256
 capsule_few board (n, c) few = by_test (is_passed_over c) refl
   where
     by_test : (b : Bool) → is_passed_over c ≡ b → length (capsule_pieces board (n, c)) ≤ 256
     by_test true e = rw e (omega arith)
     by_test false e =
-        let items : length c.items ≤ 16 = below_test 16 (length c.items) (not_first _ (nat_lt 16 (length c.items)) e) in
-        let all : length (enumerate_from 0 c.items) ≡ length c.items = length-enumerate_from 0 c.items in
-        let most : length (flat_map (item_pieces board n c.guid) (enumerate_from 0 c.items)) ≤ 16 * length (enumerate_from 0 c.items) = few_each (item_pieces board n c.guid) 16 (λ p. item_few board n c.guid p few) (enumerate_from 0 c.items) in
-        let sum : length (flat_map (item_pieces board n c.guid) (enumerate_from 0 c.items)) ≤ 256 = omega arith in
+        let items : length c.items ≤ 16 =
+        below_test 16 (length c.items) (not_first _ (nat_lt 16 (length c.items)) e) in
+        let all : length (enumerate_from 0 c.items) ≡ length c.items =
+        length-enumerate_from 0 c.items in
+        let most : length (flat_map (item_pieces board n c.guid) (enumerate_from 0 c.items))
+        ≤ 16 * length (enumerate_from 0 c.items) =
+        few_each (item_pieces board n c.guid) 16 (λ p. item_few board n c.guid p few)
+        (enumerate_from 0 c.items) in
+        let sum : length (flat_map (item_pieces board n c.guid) (enumerate_from 0 c.items)) ≤ 256 =
+        omega arith in
         rw e sum
 
 module _ (f : Formats) (limits : KeepsLimits f) where
-  pieces_few : (board : BoardValue) (bytes : Option (List ℕ)) → length board.devices ≤ 16 → length (pieces board (option_and_then f.capsules bytes)) ≤ 2048
+  pieces_few : (board : BoardValue) (bytes : Option (List ℕ)) → length board.devices ≤ 16
+      → length (pieces board (option_and_then f.capsules bytes)) ≤ 2048
   pieces_few board None few = omega arith
   pieces_few board (Some b) few = by_found (f.capsules b) refl
     where
@@ -137,37 +170,49 @@ module _ (f : Formats) (limits : KeepsLimits f) where
       by_found None e = omega arith
       by_found (Some found) e =
           let most : length found ≤ 8 = limits.capsules b found e in
-          let all : length (enumerate_from 0 found) ≡ length found = length-enumerate_from 0 found in
-          let sum : length (flat_map (capsule_pieces board) (enumerate_from 0 found)) ≤ 256 * length (enumerate_from 0 found) = few_each (capsule_pieces board) 256 (λ p. capsule_few board p few) (enumerate_from 0 found) in
+          let all : length (enumerate_from 0 found) ≡ length found =
+          length-enumerate_from 0 found in
+          let sum : length (flat_map (capsule_pieces board) (enumerate_from 0 found))
+          ≤ 256 * length (enumerate_from 0 found) =
+          few_each (capsule_pieces board) 256 (λ p. capsule_few board p few)
+          (enumerate_from 0 found) in
           omega arith
 
-  units_few : (d : Delivery) (board : BoardValue) → length board.devices ≤ 16 → length (units f d board) ≤ 2048
+  units_few : (d : Delivery) (board : BoardValue) → length board.devices ≤ 16
+      → length (units f d board) ≤ 2048
   units_few d board few =
       let ps : List Piece = pieces board (option_and_then f.capsules d.bytes) in
       let most : length ps ≤ 2048 = pieces_few board d.bytes few in
       let all : length (enumerate_from 0 ps) ≡ length ps = length-enumerate_from 0 ps in
-      let same : length (units f d board) ≡ length (enumerate_from 0 ps) = length-map (enumerate_from 0 ps) (unit_of d) in
+      let same : length (units f d board) ≡ length (enumerate_from 0 ps) =
+      length-map (enumerate_from 0 ps) (unit_of d) in
       omega arith
 
-  staged_few : (m : Machine) → length m.board.devices ≤ 16 → length m.staged ≤ 8 → length (staged_tasks f m) ≤ 16392
+  staged_few : (m : Machine) → length m.board.devices ≤ 16 → length m.staged ≤ 8
+      → length (staged_tasks f m) ≤ 16392
   staged_few m few staged =
       let each : (p : StagedPair) → length (pair_tasks f m p) ≤ 2049 = λ p.
       let us : List BootUnit = units f (memory_delivery f m p) m.board in
       let most : length us ≤ 2048 = units_few (memory_delivery f m p) m.board few in
       let same : length (map Does us) ≡ length us = length-map us Does in
       omega arith in
-      let sum : length (staged_tasks f m) ≤ 2049 * length (staged_in_order m) = few_each (pair_tasks f m) 2049 each (staged_in_order m) in
-      let all : length (staged_in_order m) ≡ length m.staged = ordered_length (λ a b. nat_lt a.serial b.serial) m.staged in
+      let sum : length (staged_tasks f m) ≤ 2049 * length (staged_in_order m) =
+      few_each (pair_tasks f m) 2049 each (staged_in_order m) in
+      let all : length (staged_in_order m) ≡ length m.staged =
+      ordered_length (λ a b. nat_lt a.serial b.serial) m.staged in
       omega arith
 
-  file_few : (m : Machine) (x : File) → length m.board.devices ≤ 16 → length (file_tasks f m x) ≤ 2049
+  file_few : (m : Machine) (x : File) → length m.board.devices ≤ 16
+      → length (file_tasks f m x) ≤ 2049
   file_few m x few =
       let us : List BootUnit = units f (file_delivery x) m.board in
       let left : List BootUnit = drop (spent m.list x.serial) us in
       let most : length us ≤ 2048 = units_few (file_delivery x) m.board few in
-      let fewer : length left ≡ length us - spent m.list x.serial = length-drop (spent m.list x.serial) us in
+      let fewer : length left ≡ length us - spent m.list x.serial =
+      length-drop (spent m.list x.serial) us in
       let same : length (map Does left) ≡ length left = length-map left Does in
-      let more : length (map Does left ++ Removes x.serial ∷ []) ≡ length (map Does left) + 1 = length-append (map Does left) (Removes x.serial ∷ []) in
+      let more : length (map Does left ++ Removes x.serial ∷ []) ≡ length (map Does left) + 1 =
+      length-append (map Does left) (Removes x.serial ∷ []) in
       omega arith
 
   prune_few : (m : Machine) → length (prune_tasks m) ≤ 1
@@ -177,7 +222,8 @@ module _ (f : Formats) (limits : KeepsLimits f) where
       by_test true = omega arith
       by_test false = omega arith
 
-  folder_few : (m : Machine) → length m.board.devices ≤ 16 → length m.files ≤ 64 → length (folder_tasks f m) ≤ 131138
+  folder_few : (m : Machine) → length m.board.devices ≤ 16 → length m.files ≤ 64
+      → length (folder_tasks f m) ≤ 131138
   folder_few m few files = by_bit m.is_signalled
     where
       works : List BootTask
@@ -189,24 +235,33 @@ module _ (f : Formats) (limits : KeepsLimits f) where
       all : length (files_in_order m) ≡ length m.files
       all = ordered_length (λ a b. is_taken_before a.name b.name) m.files
 
-      all_of_it : length (prune_tasks m ++ works ++ Clears ∷ []) ≡ length (prune_tasks m) + length works + 1
+      all_of_it : length (prune_tasks m ++ works ++ Clears ∷ [])
+          ≡ length (prune_tasks m) + length works + 1
       all_of_it =
-          let a : length ((prune_tasks m ++ works) ++ Clears ∷ []) ≡ length (prune_tasks m ++ works) + 1 = length-append (prune_tasks m ++ works) (Clears ∷ []) in
-          let b : length (prune_tasks m ++ works) ≡ length (prune_tasks m) + length works = length-append (prune_tasks m) works in
+          let a : length ((prune_tasks m ++ works) ++ Clears ∷ [])
+          ≡ length (prune_tasks m ++ works) + 1 =
+          length-append (prune_tasks m ++ works) (Clears ∷ []) in
+          let b : length (prune_tasks m ++ works) ≡ length (prune_tasks m) + length works =
+          length-append (prune_tasks m) works in
           omega arith
 
       by_bit : (t : Bool) → length (cond t (prune_tasks m ++ works ++ Clears ∷ []) []) ≤ 131138
-      by_bit true = let s = sum in let a = all in let w = all_of_it in let p : length (prune_tasks m) ≤ 1 = prune_few m in omega arith
+      by_bit true = let s = sum in let a = all in let w =
+          all_of_it in let p : length (prune_tasks m) ≤ 1 = prune_few m in omega arith
       by_bit false = omega arith
 
-  both_few : (m : Machine) → length m.board.devices ≤ 16 → length m.staged ≤ 8 → length m.files ≤ 64 → length (staged_tasks f m ++ folder_tasks f m) ≤ 147530
+  both_few : (m : Machine) → length m.board.devices ≤ 16 → length m.staged ≤ 8 → length m.files ≤ 64
+      → length (staged_tasks f m ++ folder_tasks f m) ≤ 147530
   both_few m few staged files =
       let a : length (staged_tasks f m) ≤ 16392 = staged_few m few staged in
       let b : length (folder_tasks f m) ≤ 131138 = folder_few m few files in
-      let both : length (staged_tasks f m ++ folder_tasks f m) ≡ length (staged_tasks f m) + length (folder_tasks f m) = length-append (staged_tasks f m) (folder_tasks f m) in
+      let both : length (staged_tasks f m ++ folder_tasks f m)
+      ≡ length (staged_tasks f m) + length (folder_tasks f m) =
+      length-append (staged_tasks f m) (folder_tasks f m) in
       omega arith
 
-  work_few : (m : Machine) (h : End) → length m.board.devices ≤ 16 → IsWithinLimits m → length (boot_tasks f m h) ≤ 147531
+  work_few : (m : Machine) (h : End) → length m.board.devices ≤ 16 → IsWithinLimits m
+      → length (boot_tasks f m h) ≤ 147531
   work_few m h few limits = by_found (find is_open m.list)
     where
       healed : Machine
@@ -216,22 +271,31 @@ module _ (f : Formats) (limits : KeepsLimits f) where
       few_files = omega (arith, limits.files)
 
       board : length healed.board.devices ≤ 16
-      board = subst (λ (b : BoardValue). length b.devices ≤ 16) (sym (settled_board m h (find is_open m.list))) few
+      board = subst (λ (b : BoardValue). length b.devices ≤ 16)
+          (sym (settled_board m h (find is_open m.list))) few
 
       staged : length healed.staged ≤ 8
-      staged = subst (λ (ps : List StagedPair). length ps ≤ 8) (sym (settled_staged m h (find is_open m.list))) limits.staged
+      staged = subst (λ (ps : List StagedPair). length ps ≤ 8)
+          (sym (settled_staged m h (find is_open m.list))) limits.staged
 
       files : length healed.files ≤ 64
-      files = subst (λ (xs : List File). length xs ≤ 64) (sym (settled_files m h (find is_open m.list))) few_files
+      files = subst (λ (xs : List File). length xs ≤ 64)
+          (sym (settled_files m h (find is_open m.list))) few_files
 
       by_found : (o : Option Element) → length (tasks_with f m h o) ≤ 147531
-      by_found None = let most : length (staged_tasks f m ++ folder_tasks f m) ≤ 147530 = both_few m few limits.staged few_files in omega arith
-      by_found (Some e) = let most : length (staged_tasks f healed ++ folder_tasks f healed) ≤ 147530 = both_few healed board staged files in omega arith
+      by_found None = let most : length (staged_tasks f m ++ folder_tasks f m) ≤ 147530 =
+          both_few m few limits.staged few_files in omega arith
+      by_found (Some e) =
+          let most : length (staged_tasks f healed ++ folder_tasks f healed) ≤ 147530 =
+          both_few healed board staged files in omega arith
 
   -- the steps of a boot
-  pub boot_short : (m : Machine) (h : End) (j : ℕ) → length m.board.devices ≤ 16 → IsWithinLimits m → (boot_at f m h j).report.steps < 2 ^ 20
+  pub boot_short : (m : Machine) (h : End) (j : ℕ) → length m.board.devices ≤ 16 → IsWithinLimits m
+      → (boot_at f m h j).report.steps < 2 ^ 20
   boot_short m h j few limits =
-      let steps : (boot_at f m h j).report.steps + weight (boot_at f m h j).left ≤ 0 + weight (boot_tasks f m h) = steps_weigh f j (boot_start f m h) in
-      let most : weight (boot_tasks f m h) ≤ 2 * length (boot_tasks f m h) = weight_most (boot_tasks f m h) in
+      let steps : (boot_at f m h j).report.steps + weight (boot_at f m h j).left
+      ≤ 0 + weight (boot_tasks f m h) = steps_weigh f j (boot_start f m h) in
+      let most : weight (boot_tasks f m h) ≤ 2 * length (boot_tasks f m h) =
+      weight_most (boot_tasks f m h) in
       let work : length (boot_tasks f m h) ≤ 147531 = work_few m h few limits in
       omega arith

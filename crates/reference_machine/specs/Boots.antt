@@ -1,5 +1,6 @@
--- A boot of the reference machine, step by step. One function gives the next step from the machine and from what is left
--- of the boot; a boot is its iteration, so that each step and the machine after it have a number.
+-- A boot of the reference machine, step by step. One function gives the next step from the machine
+-- and from what is left of the boot; a boot is its iteration, so that each step and the machine
+-- after it have a number.
 use Rattle.std.specs.Prelude.{ℕ, zero, suc, Bool, false, ◌+◌, ◌*◌, ◌==◌, not, nat_lt, List, [], ◌∷◌, ◌++◌, length, map, filter, flat_map, count_by, find, drop, Option, None, Some, option_map, unwrap_or, if◌then◌else◌}
 use Rattle.std.specs.List.{list_any}
 use Rattle.cu_base.specs.declared.time.EfiTime.{EfiTime}
@@ -40,10 +41,12 @@ pub record BootState : Type 0 where
 abbrev pub progress_with : List ℕ → UnitKey → List ℕ
 progress_with in_progress key =
     if key.ticket.route == 1
-    then if list_any (λ s. s == key.ticket.serial) in_progress then in_progress else in_progress ++ key.ticket.serial ∷ []
+    then if list_any (λ s. s == key.ticket.serial) in_progress then in_progress
+    else in_progress ++ key.ticket.serial ∷ []
     else in_progress
 
--- an element of a unit, with what stands in its image's parts, and zeros and nothing where it has none
+-- an element of a unit, with what stands in its image's parts, and zeros and nothing where it has
+-- none
 abbrev pub element_with : BootUnit → Standing → Option Parts → Element
 element_with u standing parts = record {
   kind = u.kind;
@@ -71,7 +74,11 @@ element_of f u standing = element_with u standing (parts_tried f u u.kind)
 
 -- the machine with one more spent unit
 abbrev pub with_element : Machine → Element → Machine
-with_element m e = record m { list = m.list ++ e ∷ []; in_progress = progress_with m.in_progress e.key; batches = m.batches + 1 }
+with_element m e = record m {
+  list = m.list ++ e ∷ [];
+  in_progress = progress_with m.in_progress e.key;
+  batches = m.batches + 1;
+}
 
 -- the machine with one more claim: of this no progress is stored
 abbrev pub with_claim : Machine → Element → Machine
@@ -84,7 +91,11 @@ closed_with end now e = if is_open e then record e { standing = Closed (Some end
 -- the machine with this open element closed, where there is one
 abbrev pub settled_with : Machine → End → Option Element → Machine
 settled_with m end None = m
-settled_with m end (Some e) = record m { list = map (closed_with end m.now) m.list; in_progress = progress_with m.in_progress e.key; batches = m.batches + 1 }
+settled_with m end (Some e) = record m {
+  list = map (closed_with end m.now) m.list;
+  in_progress = progress_with m.in_progress e.key;
+  batches = m.batches + 1;
+}
 
 -- the machine with its open element closed
 abbrev pub settled : Machine → End → Machine
@@ -146,26 +157,44 @@ after f b [] = b
 after f b (Settles kind end ∷ rest) = record {
   machine = settled b.machine end;
   left = rest;
-  report = with_lines b.report (map (λ e. next_line b.machine kind (closed_with end b.machine.now e)) (filter is_open b.machine.list));
+  report = with_lines b.report
+      (map (λ e. next_line b.machine kind (closed_with end b.machine.now e))
+      (filter is_open b.machine.list));
 }
 after f b (Unstages p ∷ rest) = record {
-  machine = record b.machine { staged = filter (λ q. not (q.serial == p.serial)) b.machine.staged; batches = b.machine.batches + 1 };
+  machine = record b.machine {
+    staged = filter (λ q. not (q.serial == p.serial)) b.machine.staged;
+    batches = b.machine.batches + 1;
+  };
   left = rest;
-  report = record b.report { steps = b.report.steps + 1; unstaged = b.report.unstaged ++ p.serial ∷ [] };
+  report = record b.report {
+    steps = b.report.steps + 1;
+    unstaged = b.report.unstaged ++ p.serial ∷ [];
+  };
 }
 after f b (Does u ∷ rest) = after_unit f b u rest (course_of f b.machine u u.kind)
 after f b (Prunes ∷ rest) = record {
-  machine = record b.machine { in_progress = filter (is_file b.machine.files) b.machine.in_progress; batches = b.machine.batches + 1 };
+  machine = record b.machine {
+    in_progress = filter (is_file b.machine.files) b.machine.in_progress;
+    batches = b.machine.batches + 1;
+  };
   left = rest;
   report = one_step b.report;
 }
 after f b (Removes serial ∷ rest) = record {
   machine = record b.machine { files = filter (λ x. not (x.serial == serial)) b.machine.files };
   left = rest;
-  report = record b.report { steps = b.report.steps + 1; removed = b.report.removed ++ serial ∷ [] };
+  report = record b.report {
+    steps = b.report.steps + 1;
+    removed = b.report.removed ++ serial ∷ [];
+  };
 }
 after f b (Clears ∷ rest) = record {
-  machine = record b.machine { is_signalled = false; in_progress = []; batches = b.machine.batches + 1 };
+  machine = record b.machine {
+    is_signalled = false;
+    in_progress = [];
+    batches = b.machine.batches + 1;
+  };
   left = rest;
   report = one_step b.report;
 }
@@ -181,7 +210,12 @@ after_steps f (suc n) b = next f (after_steps f n b)
 
 -- a staged delivery: the bytes behind its scatter list
 abbrev pub memory_delivery : Formats → Machine → StagedPair → Delivery
-memory_delivery f m p = record { route = 0; serial = p.serial; name = []; bytes = f.coalesced m.memory p.address }
+memory_delivery f m p = record {
+  route = 0;
+  serial = p.serial;
+  name = [];
+  bytes = f.coalesced m.memory p.address;
+}
 
 -- the delivery of a file
 abbrev pub file_delivery : File → Delivery
@@ -205,7 +239,9 @@ staged_tasks f m = flat_map (pair_tasks f m) (staged_in_order m)
 
 -- the work on a file: its units that are not spent yet are done, and then it is removed
 abbrev pub file_tasks : Formats → Machine → File → List BootTask
-file_tasks f m x = map Does (drop (spent m.list x.serial) (units f (file_delivery x) m.board)) ++ Removes x.serial ∷ []
+file_tasks f m x =
+    map Does (drop (spent m.list x.serial) (units f (file_delivery x) m.board))
+    ++ Removes x.serial ∷ []
 
 -- progress is dropped where it is of a file that is gone
 abbrev pub prune_tasks : Machine → List BootTask
@@ -221,9 +257,11 @@ folder_tasks f m =
 -- the work of a boot that finds this element open, or none
 abbrev pub tasks_with : Formats → Machine → End → Option Element → List BootTask
 tasks_with f m h None = staged_tasks f m ++ folder_tasks f m
-tasks_with f m h (Some e) = Settles Heal h ∷ staged_tasks f (settled m h) ++ folder_tasks f (settled m h)
+tasks_with f m h (Some e) =
+    Settles Heal h ∷ staged_tasks f (settled m h) ++ folder_tasks f (settled m h)
 
--- the work of a boot. An element that an earlier boot left open is settled first, by what the device holds (h).
+-- the work of a boot. An element that an earlier boot left open is settled first, by what the
+-- device holds (h).
 abbrev pub boot_tasks : Formats → Machine → End → List BootTask
 boot_tasks f m h = tasks_with f m h (find is_open m.list)
 
@@ -232,7 +270,14 @@ abbrev pub boot_start : Formats → Machine → End → BootState
 boot_start f m h = record {
   machine = m;
   left = boot_tasks f m h;
-  report = record { opened = Some m.batches; steps = 0; lines = []; unstaged = []; removed = []; pending = None };
+  report = record {
+    opened = Some m.batches;
+    steps = 0;
+    lines = [];
+    unstaged = [];
+    removed = [];
+    pending = None;
+  };
 }
 
 -- the boot after j steps

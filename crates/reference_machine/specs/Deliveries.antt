@@ -1,4 +1,5 @@
--- Deliveries and their units. A delivery holds capsules back to back; a unit is one piece of work of a boot.
+-- Deliveries and their units. A delivery holds capsules back to back; a unit is one piece of work
+-- of a boot.
 use Rattle.std.specs.Prelude.{ℕ, Bool, ◌==◌, ◌||◌, ◌&&◌, not, nat_lt, List, [], ◌∷◌, length, map, filter, flat_map, bytes_eq, Option, None, Some, option_and_then, if◌then◌else◌}
 use Rattle.std.specs.List.{enumerate_from}
 use Rattle.cu_base.specs.declared.guid.Guid.{Guid}
@@ -10,15 +11,17 @@ use Rattle.bench_model.specs.Devices.{DeviceValue}
 use Rattle.reference_machine.specs.declared.limits.TheConstants.{MAX_CAPSULE_ITEMS}
 use Rattle.reference_machine.specs.Formats.{ItemHead, Item, Capsule, Formats}
 
--- a list of bytes with its route (0 is memory, 1 is disk), its serial and its file's name, which is empty for memory.
--- There are no bytes where the scatter list of a delivery by memory can't be coalesced.
+-- a list of bytes with its route (0 is memory, 1 is disk), its serial and its file's name, which is
+-- empty for memory. There are no bytes where the scatter list of a delivery by memory can't be
+-- coalesced.
 pub record Delivery : Type 0 where
   pub route : ℕ
   pub serial : ℕ
   pub name : List ℕ
   pub bytes : Option (List ℕ)
 
--- what a unit is made of. Kind is Try, Skip, NoTarget or Bad; a unit without an item has an empty image.
+-- what a unit is made of. Kind is Try, Skip, NoTarget or Bad; a unit without an item has an empty
+-- image.
 pub record BootUnit : Type 0 where
   pub kind : Kind
   pub key : UnitKey
@@ -32,7 +35,10 @@ no_guid = record { bytes = 0 ∷ 0 ∷ 0 ∷ 0 ∷ 0 ∷ 0 ∷ 0 ∷ 0 ∷ 0 ∷
 
 -- 6dcbd5ed-e82d-4c44-bda1-7194199ad92a, the GUID of FMP capsules (UEFI 2.10, 23.3)
 abbrev pub fmp_guid : Guid
-fmp_guid = record { bytes = 0xED ∷ 0xD5 ∷ 0xCB ∷ 0x6D ∷ 0x2D ∷ 0xE8 ∷ 0x44 ∷ 0x4C ∷ 0xBD ∷ 0xA1 ∷ 0x71 ∷ 0x94 ∷ 0x19 ∷ 0x9A ∷ 0xD9 ∷ 0x2A ∷ [] }
+fmp_guid = record {
+  bytes = 0xED ∷ 0xD5 ∷ 0xCB ∷ 0x6D ∷ 0x2D ∷ 0xE8 ∷ 0x44 ∷ 0x4C ∷ 0xBD ∷ 0xA1
+      ∷ 0x71 ∷ 0x94 ∷ 0x19 ∷ 0x9A ∷ 0xD9 ∷ 0x2A ∷ [];
+}
 
 -- two GUIDs are equal
 abbrev pub is_same_guid : Guid → Guid → Bool
@@ -42,14 +48,15 @@ is_same_guid a b = bytes_eq a.bytes b.bytes
 abbrev pub no_head : ItemHead
 no_head = record { version = 0; type_id = no_guid; index = 0; instance = 0; support = 0 }
 
--- a capsule that the platform passes over: of another GUID, with drivers, without items, or with too many
+-- a capsule that the platform passes over: of another GUID, with drivers, without items, or with
+-- too many
 abbrev pub is_passed_over : Capsule → Bool
 is_passed_over c =
     not (is_same_guid c.guid fmp_guid) || not (c.drivers == 0) || length c.items == 0
     || nat_lt MAX_CAPSULE_ITEMS (length c.items)
 
--- whether a device is a target: the same type and index and, unless the item's instance is 0 or its header has
--- version 1, the same instance
+-- whether a device is a target: the same type and index and, unless the item's instance is 0 or its
+-- header has version 1, the same instance
 abbrev pub is_target : ItemHead → DeviceValue → Bool
 is_target h d = is_same_guid h.type_id d.type_id && h.index == d.index
     && (h.instance == 0 || h.version == 1 || h.instance == d.instance)
@@ -58,8 +65,8 @@ is_target h d = is_same_guid h.type_id d.type_id && h.index == d.index
 abbrev pub targets : ItemHead → BoardValue → List ℕ
 targets h board = map (λ p. p.0) (filter (λ p. is_target h p.1) (enumerate_from 0 board.devices))
 
--- a unit before its delivery and its number are known: capsule and item that it is of, which are 0 where it has none, and
--- its device, 255 where it has none
+-- a unit before its delivery and its number are known: capsule and item that it is of, which are 0
+-- where it has none, and its device, 255 where it has none
 pub record Piece : Type 0 where
   pub kind : Kind
   pub capsule_number : ℕ
@@ -74,7 +81,15 @@ abbrev pub item_pieces : BoardValue → ℕ → Guid → ℕ × Item → List Pi
 item_pieces board n guid (k, item) = pieces_on (targets item.head board)
   where
     piece : Kind → ℕ → Piece
-    piece kind device = record { kind = kind; capsule_number = n; item_number = k; device = device; capsule = guid; head = item.head; image = item.image }
+    piece kind device = record {
+      kind = kind;
+      capsule_number = n;
+      item_number = k;
+      device = device;
+      capsule = guid;
+      head = item.head;
+      image = item.image;
+    }
 
     pieces_on : List ℕ → List Piece
     pieces_on [] = piece NoTarget 255 ∷ []
@@ -84,12 +99,28 @@ item_pieces board n guid (k, item) = pieces_on (targets item.head board)
 abbrev pub capsule_pieces : BoardValue → ℕ × Capsule → List Piece
 capsule_pieces board (n, c) =
     if is_passed_over c
-    then record { kind = Skip; capsule_number = n; item_number = 0; device = 255; capsule = c.guid; head = no_head; image = [] } ∷ []
+    then record {
+      kind = Skip;
+      capsule_number = n;
+      item_number = 0;
+      device = 255;
+      capsule = c.guid;
+      head = no_head;
+      image = [];
+    } ∷ []
     else flat_map (item_pieces board n c.guid) (enumerate_from 0 c.items)
 
 -- the one unit of a delivery whose bytes are refused
 abbrev pub bad_piece : Piece
-bad_piece = record { kind = Bad; capsule_number = 0; item_number = 0; device = 255; capsule = no_guid; head = no_head; image = [] }
+bad_piece = record {
+  kind = Bad;
+  capsule_number = 0;
+  item_number = 0;
+  device = 255;
+  capsule = no_guid;
+  head = no_head;
+  image = [];
+}
 
 -- the pieces of a delivery, by what its bytes decode to
 abbrev pub pieces : BoardValue → Option (List Capsule) → List Piece
@@ -101,7 +132,12 @@ abbrev pub unit_of : Delivery → ℕ × Piece → BootUnit
 unit_of d (n, p) = record {
   kind = p.kind;
   key = record {
-    ticket = record { route = d.route; capsule = p.capsule_number; item = p.item_number; serial = d.serial };
+    ticket = record {
+      route = d.route;
+      capsule = p.capsule_number;
+      item = p.item_number;
+      serial = d.serial;
+    };
     unit = n;
     device = p.device;
     name = d.name;
@@ -113,4 +149,5 @@ unit_of d (n, p) = record {
 
 -- the units of a delivery, in order
 abbrev pub units : Formats → Delivery → BoardValue → List BootUnit
-units f d board = map (unit_of d) (enumerate_from 0 (pieces board (option_and_then f.capsules d.bytes)))
+units f d board =
+    map (unit_of d) (enumerate_from 0 (pieces board (option_and_then f.capsules d.bytes)))

@@ -1,5 +1,6 @@
--- The events of a play: what each may tell, and which machine it leaves. One outcome is that of a platform on which nothing
--- fails; the others are those after a fault, and those that only the outside decides.
+-- The events of a play: what each may tell, and which machine it leaves. One outcome is that of a
+-- platform on which nothing fails; the others are those after a fault, and those that only the
+-- outside decides.
 use Rattle.std.specs.Prelude.{ℕ, Bool, true, false, ◌+◌, ◌-◌, ◌/◌, ◌%◌, ◌^◌, ◌==◌, ◌&&◌, ◌||◌, not, nat_lt, nat_le, ◌≡◌, ◌⊎◌, List, [], ◌∷◌, ◌++◌, length, map, filter, flat_map, sum_by, Option, None, Some, Result, Ok, Err, if◌then◌else◌}
 use Rattle.std.specs.List.{list_any}
 use Rattle.cu_base.specs.declared.time.EfiTime.{EfiTime}
@@ -8,14 +9,14 @@ use Rattle.fmp_headers.specs.declared.faults.HeaderFault.{HeaderFault}
 use Rattle.fmp_headers.specs.CapsuleHeader.{capsule_header}
 use Rattle.reference_machine.specs.declared.event.Event.{Event}
 use Rattle.reference_machine.specs.declared.event.Event.TheVariants as events
-use Rattle.reference_machine.specs.declared.limits.TheConstants.{MAX_FILES, MAX_STAGED, MAX_SEGMENTS, MAX_MEMORY_BYTES}
+use Rattle.reference_machine.specs.declared.limits.TheConstants.{MAX_FILES, MAX_FOLDER_BYTES, MAX_STAGED, MAX_SEGMENTS, MAX_MEMORY_BYTES}
 use Rattle.reference_machine.specs.declared.trace.BootEnd.{BootEnd}
 use Rattle.reference_machine.specs.declared.trace.BootEnd.TheVariants as ends
 use Rattle.reference_machine.specs.declared.unit.End.{End}
 use Rattle.reference_machine.specs.declared.unit.End.TheVariants.{Sealed, Kept, Lost}
 use Rattle.reference_machine.specs.Boots.{BootState, boot_of, files_in_order, staged_in_order}
 use Rattle.reference_machine.specs.Formats.{Formats}
-use Rattle.reference_machine.specs.Machine.{Machine}
+use Rattle.reference_machine.specs.Machine.{File, Machine}
 use Rattle.reference_machine.specs.Names.{is_same_name}
 use Rattle.reference_machine.specs.Report.{ReportValue, nothing_done}
 use Rattle.reference_machine.specs.Results.{esrt_of, results_of, last_result}
@@ -65,24 +66,36 @@ opened m answer = record { opened = Some m.batches; pending = None; answer = ans
 
 -- an answer after which the batch in hand is stored or is not
 abbrev pub in_doubt : Machine → AnswerValue → EntryValue
-in_doubt m answer = record { opened = Some m.batches; pending = Some (m.batches + 1); answer = answer }
+in_doubt m answer = record {
+  opened = Some m.batches;
+  pending = Some (m.batches + 1);
+  answer = answer;
+}
 
 -- the machine after a fault
 abbrev pub failed : Machine → Machine
 failed m = record m { failed = true }
 
--- the machine with a file put into the folder: it replaces one of the same name, and has the next serial
+-- the machine with a file put into the folder: it replaces one of the same name, and has the next
+-- serial
 abbrev pub with_file : Machine → List ℕ → List ℕ → Machine
 with_file m name bytes = record m {
-  files = filter (λ x. not (is_same_name x.name name)) m.files ++ record { name = name; serial = m.last_file + 1; bytes = bytes } ∷ [];
+  files = filter (λ x. not (is_same_name x.name name)) m.files
+      ++ record { name = name; serial = m.last_file + 1; bytes = bytes } ∷ [];
   last_file = m.last_file + 1;
 }
 
--- the folder takes no file of a new name where it is full, and no file where no serial is left
-abbrev pub is_folder_full : Machine → List ℕ → Bool
-is_folder_full m name =
+-- how many bytes the files of other names have
+abbrev pub bytes_beside : List File → List ℕ → ℕ
+bytes_beside files name = sum_by (λ x. if is_same_name x.name name then 0 else length x.bytes) files
+
+-- the folder takes no file of a new name where it is full, no file with which its bytes would pass
+-- their limit, and none where no serial is left
+abbrev pub is_folder_full : Machine → List ℕ → List ℕ → Bool
+is_folder_full m name bytes =
     nat_le MAX_FILES (length m.files) && not (list_any (λ x. is_same_name x.name name) m.files)
-    || nat_le (2 ^ 64 - 1) m.last_file
+    || (nat_lt MAX_FOLDER_BYTES (bytes_beside m.files name + length bytes)
+    || nat_le (2 ^ 64 - 1) m.last_file)
 
 -- bytes would pass the last address but one
 abbrev pub wraps : ℕ → List ℕ → Bool
@@ -99,15 +112,16 @@ is_memory_full m bytes =
 
 -- the machine with one more segment
 abbrev pub with_segment : Machine → ℕ → List ℕ → Machine
-with_segment m address bytes = record m { memory = m.memory ++ record { address = address; bytes = bytes } ∷ [] }
+with_segment m address bytes =
+    record m { memory = m.memory ++ record { address = address; bytes = bytes } ∷ [] }
 
--- whether flags have a bit: PERSIST_ACROSS_RESET is bit 16, POPULATE_SYSTEM_TABLE bit 17, INITIATE_RESET bit 18
--- (UEFI 2.10, 8.5.3)
+-- whether flags have a bit: PERSIST_ACROSS_RESET is bit 16, POPULATE_SYSTEM_TABLE bit 17,
+-- INITIATE_RESET bit 18 (UEFI 2.10, 8.5.3)
 abbrev pub has_bit : ℕ → ℕ → Bool
 has_bit flags n = flags / 2 ^ n % 2 == 1
 
--- why UpdateCapsule refuses a capsule of these flags: tables and resets need a capsule that lasts (UEFI 2.10, 8.5.3), and
--- only a capsule that lasts, and that is no table, is taken
+-- why UpdateCapsule refuses a capsule of these flags: tables and resets need a capsule that lasts
+-- (UEFI 2.10, 8.5.3), and only a capsule that lasts, and that is no table, is taken
 abbrev pub flags_refusal : ℕ → Option AnswerValue
 flags_refusal flags =
     if has_bit flags 17 && not (has_bit flags 16) then Some Invalid
@@ -129,7 +143,9 @@ coalesced_refusal (Some bytes) = header_refusal (capsule_header bytes)
 -- no more deliveries are taken by memory where eight wait, or where no serial is left
 abbrev pub staging_refusal : Machine → Option AnswerValue → Option AnswerValue
 staging_refusal m (Some answer) = Some answer
-staging_refusal m None = if nat_le MAX_STAGED (length m.staged) || nat_le (2 ^ 64 - 1) m.last_staged then Some Resources else None
+staging_refusal m None =
+    if nat_le MAX_STAGED (length m.staged) || nat_le (2 ^ 64 - 1) m.last_staged then Some Resources
+    else None
 
 -- why UpdateCapsule refuses the scatter list at an address
 abbrev pub stage_refusal : Formats → Machine → ℕ → Option AnswerValue
@@ -161,7 +177,8 @@ snapshot_of m = record {
   esrt = esrt_of m.board m.list;
   results = results_of m.board m.list;
   last = last_result m.board m.list;
-  files = map (λ x. record { name = x.name; serial = x.serial; size = length x.bytes }) (files_in_order m);
+  files = map (λ x. record { name = x.name; serial = x.serial; size = length x.bytes })
+      (files_in_order m);
   staged = staged_in_order m;
 }
 
@@ -182,7 +199,8 @@ stage_done m address None = (opened m (Serial (m.last_staged + 1)), with_staged 
 abbrev pub outcome : Formats → Machine → Act → Outcome
 outcome f m (Time moment) = (plain Done, record m { now = moment })
 outcome f m (Drop file bytes) =
-    if is_folder_full m file then (plain Full, m) else (plain (Serial (m.last_file + 1)), with_file m file bytes)
+    if is_folder_full m file bytes then (plain Full, m)
+    else (plain (Serial (m.last_file + 1)), with_file m file bytes)
 outcome f m Signal = (opened m Done, signalled m)
 outcome f m (Lay address bytes) =
     if wraps address bytes then (plain Wraps, m)
@@ -196,21 +214,26 @@ outcome f m (Reset true) = (plain Done, cold m)
 outcome f m (Reset false) = (plain Done, warm m)
 outcome f m Show = (opened m (Shown (snapshot_of m)), m)
 
--- the outcomes of UpdateCapsule after a fault: the delivery is staged or is not, where the checks allow it
+-- the outcomes of UpdateCapsule after a fault: the delivery is staged or is not, where the checks
+-- allow it
 abbrev pub stage_faults : Machine → ℕ → Option AnswerValue → List Outcome
 stage_faults m address (Some answer) =
-    (plain FlashFault, failed m) ∷ (opened m FlashFault, failed m) ∷ (in_doubt m FlashFault, failed m) ∷ []
+    (plain FlashFault, failed m) ∷ (opened m FlashFault, failed m)
+    ∷ (in_doubt m FlashFault, failed m) ∷ []
 stage_faults m address None =
     (plain FlashFault, failed m) ∷ (opened m FlashFault, failed m)
-    ∷ (in_doubt m FlashFault, failed m) ∷ (in_doubt m FlashFault, failed (with_staged m address)) ∷ []
+    ∷ (in_doubt m FlashFault, failed m)
+    ∷ (in_doubt m FlashFault, failed (with_staged m address)) ∷ []
 
--- the other outcomes of an event but those of a stopped boot. A boot before which an element is open closes it by what the
--- device holds. A reset loses the memory after a fault, since the power may be off.
+-- the other outcomes of an event but those of a stopped boot. A boot before which an element is
+-- open closes it by what the device holds. A reset loses the memory after a fault, since the power
+-- may be off.
 abbrev pub other_outcomes : Formats → Machine → Act → List Outcome
 other_outcomes f m (Time moment) = []
 other_outcomes f m (Drop file bytes) =
     (plain VolumeFault, failed m)
-    ∷ (if is_folder_full m file then [] else (plain VolumeFault, failed (with_file m file bytes)) ∷ [])
+    ∷ (if is_folder_full m file bytes then []
+    else (plain VolumeFault, failed (with_file m file bytes)) ∷ [])
 other_outcomes f m Signal =
     (plain FlashFault, failed m) ∷ (opened m FlashFault, failed m)
     ∷ (in_doubt m FlashFault, failed m) ∷ (in_doubt m FlashFault, failed (signalled m)) ∷ []
@@ -236,8 +259,10 @@ IsToldAs Flash end = end ≡ ends.Flash
 IsToldAs Volume end = end ≡ ends.Volume
 IsToldAs Memory end = ⊥
 
--- a fault of the outside stopped a boot: its report agrees with a machine, and this is left with the mark of a fault
-pub record IsStoppedBoot (f : Formats) (m : Machine) (entry : EntryValue) (new : Machine) : Type 0 where
+-- a fault of the outside stopped a boot: its report agrees with a machine, and this is left with
+-- the mark of a fault
+pub record IsStoppedBoot (f : Formats) (m : Machine) (entry : EntryValue)
+    (new : Machine) : Type 0 where
   pub heal : End  -- how an element that was open is closed
   pub is_held : IsHeldEnd heal
   pub report : ReportValue
@@ -267,7 +292,8 @@ abbrev pub Step : Formats → Machine → Act → EntryValue → Machine → Typ
 Step f m act entry new =
     IsIn (entry, new) (outcome f m act ∷ other_outcomes f m act) ⊎ IsStopped f m act entry new
 
--- the machines of an event that is cut off without an entry: those of a boot, and else unchanged or done
+-- the machines of an event that is cut off without an entry: those of a boot, and else unchanged or
+-- done
 abbrev pub cut_machines : Formats → Machine → Act → List Machine
 cut_machines f m (Time moment) = m ∷ (outcome f m (Time moment)).1 ∷ []
 cut_machines f m (Drop file bytes) = m ∷ (outcome f m (Drop file bytes)).1 ∷ []

@@ -1,5 +1,5 @@
--- What the formats of deliveries say, as far as a boot asks: the capsules in the bytes of a delivery, the parts of an
--- update image, and the bytes behind a scatter list.
+-- What the formats of deliveries say, as far as a boot asks: the capsules in the bytes of a
+-- delivery, the parts of an update image, and the bytes behind a scatter list.
 use Rattle.std.specs.Prelude.{ℕ, Bool, List, Option}
 use Rattle.cu_base.specs.declared.guid.Guid.{Guid}
 
@@ -22,8 +22,8 @@ pub record Capsule : Type 0 where
   pub drivers : ℕ
   pub items : List Item
 
--- the parts of an update image: version and lowest supported version of its payload header, its dependency section,
--- empty where it has none, and its payload
+-- the parts of an update image: version and lowest supported version of its payload header, its
+-- dependency section, empty where it has none, and its payload
 pub record Parts : Type 0 where
   pub version : ℕ
   pub lowest : ℕ
@@ -35,8 +35,8 @@ pub record Segment : Type 0 where
   pub address : ℕ
   pub bytes : List ℕ
 
--- what a boot reads of bytes: each is None where the bytes are refused. Whether versions satisfy a dependency section is
--- asked of sections that are not empty; one that is refused is not satisfied.
+-- what a boot reads of bytes: each is None where the bytes are refused. Whether versions satisfy a
+-- dependency section is asked of sections that are not empty; one that is refused is not satisfied.
 pub record Formats : Type 0 where
   pub capsules : List ℕ → Option (List Capsule)
   pub parts : List ℕ → ℕ → Option Parts

@@ -1,4 +1,5 @@
--- What holds of every machine that is reached from a fresh board, whatever is delivered and whatever fails.
+-- What holds of every machine that is reached from a fresh board, whatever is delivered and
+-- whatever fails.
 use Rattle.std.specs.Prelude.{◌≡◌, ◌≢◌, ◌⊎◌, ℕ, ◌+◌, ◌<◌, ◌≤◌, Bool, false, ◌==◌, List, [], ◌∷◌, ◌++◌, IsTrue, length, filter, find, Option, None, Some}
 use Rattle.std.specs.List.{AllByRecursion, list_any}
 use Rattle.cu_base.specs.declared.time.EfiTime.{EfiTime}
@@ -19,8 +20,8 @@ use Rattle.reference_machine.specs.Stops.{IsHeldEnd}
 use Rattle.reference_machine.specs.TraceValues.{AnswerValue, EntryValue}
 use Rattle.reference_machine.specs.TraceValues.AnswerValue.{Done, Serial, FlashFault, VolumeFault, NoBank, Full, Wraps, Invalid, Unsupported, Resources, Booted, Shown}
 
--- a machine that is reached from a fresh board: by events, and by steps of a boot that something stopped, with or without
--- faults
+-- a machine that is reached from a fresh board: by events, and by steps of a boot that something
+-- stopped, with or without faults
 pub data IsReached (f : Formats) (board : BoardValue) : Machine → Type 0 where
   Fresh : IsReached f board (fresh board)
   ByEvent : (m : Machine) (act : Act) (entry : EntryValue) (new : Machine) → IsReached f board m →
@@ -30,12 +31,15 @@ pub data IsReached (f : Formats) (board : BoardValue) : Machine → Type 0 where
 
 -- an open element is the last one, so that there is at most one
 abbrev pub OpenIsLast : List Element → Type 0
-OpenIsLast list = (before rest : List Element) (e : Element) → list ≡ before ++ e ∷ rest → IsTrue (is_open e) → rest ≡ []
+OpenIsLast list =
+    (before rest : List Element) (e : Element) → list ≡ before ++ e ∷ rest → IsTrue (is_open e)
+    → rest ≡ []
 
 -- an attempt has at least the version that is the floor in force where it stands
 abbrev pub AttemptsReachFloor : BoardValue → List Element → Type 0
 AttemptsReachFloor board list =
-    (before rest : List Element) (e : Element) → list ≡ before ++ e ∷ rest → IsTrue (is_attempt e) → floor_of board before e.key.device ≤ e.version
+    (before rest : List Element) (e : Element) → list ≡ before ++ e ∷ rest → IsTrue (is_attempt e)
+    → floor_of board before e.key.device ≤ e.version
 
 -- the end of a boot tells no fault
 abbrev pub IsNoFaultEnd : BootEnd → Type 0
@@ -81,7 +85,8 @@ pub record AreApart (m : Machine) : Type 0 where
   pub staged : Distinct (λ a b. a.serial == b.serial) m.staged
   pub last_staged : AllByRecursion (λ p. p.serial ≤ m.last_staged) m.staged
 
--- the units of one delivery stand in order, without gaps from 0: each is preceded by as many as its number says
+-- the units of one delivery stand in order, without gaps from 0: each is preceded by as many as its
+-- number says
 abbrev pub StandInOrder : List Element → Type 0
 StandInOrder list =
     (before rest : List Element) (e : Element) → list ≡ before ++ e ∷ rest
@@ -89,37 +94,44 @@ StandInOrder list =
 
 -- no key stands twice
 abbrev pub HaveDistinctKeys : List Element → Type 0
-HaveDistinctKeys list = (before between rest : List Element) (a b : Element) → list ≡ before ++ a ∷ (between ++ b ∷ rest) → a.key ≢ b.key
+HaveDistinctKeys list =
+    (before between rest : List Element) (a b : Element)
+    → list ≡ before ++ a ∷ (between ++ b ∷ rest) → a.key ≢ b.key
 
 -- a file of which units are spent has its progress stored
 abbrev pub SpentFilesHaveProgress : Machine → Type 0
-SpentFilesHaveProgress m = AllByRecursion (λ x. 0 < spent m.list x.serial → IsTrue (list_any (λ s. s == x.serial) m.in_progress)) m.files
+SpentFilesHaveProgress m =
+    AllByRecursion
+    (λ x. 0 < spent m.list x.serial → IsTrue (list_any (λ s. s == x.serial) m.in_progress)) m.files
 
 -- the serials of stored progress, with that of an open element on a file
 abbrev pub progress_with_open : List ℕ → Option Element → List ℕ
 progress_with_open in_progress None = in_progress
 progress_with_open in_progress (Some e) = progress_with in_progress e.key
 
--- files and staged deliveries are within their limits, and so are the serials of stored progress, with that of an open element on a
--- file: there are at most as many as there may be files
+-- files and staged deliveries are within their limits, and so are the serials of stored progress,
+-- with that of an open element on a file: there are at most as many as there may be files
 pub record IsWithinLimits (m : Machine) : Type 0 where
   pub files : length m.files ≤ MAX_FILES
   pub staged : length m.staged ≤ MAX_STAGED
   pub in_progress : length (progress_with_open m.in_progress (find is_open m.list)) ≤ MAX_FILES
 
--- a unit is of a delivery by memory (route 0) or by disk (route 1), with a serial up to the last one there
+-- a unit is of a delivery by memory (route 0) or by disk (route 1), with a serial up to the last
+-- one there
 abbrev pub IsGiven : Machine → UnitKey → Type 0
 IsGiven m key =
-    ((key.ticket.route ≡ 0) × (key.ticket.serial ≤ m.last_staged)) ⊎ ((key.ticket.route ≡ 1) × (key.ticket.serial ≤ m.last_file))
+    ((key.ticket.route ≡ 0) × (key.ticket.serial ≤ m.last_staged))
+    ⊎ ((key.ticket.route ≡ 1) × (key.ticket.serial ≤ m.last_file))
 
--- the serials of spent units and those of stored progress are at most the last ones, and a delivery that is staged has no spent unit
+-- the serials of spent units and those of stored progress are at most the last ones, and a delivery
+-- that is staged has no spent unit
 pub record SerialsAreGiven (m : Machine) : Type 0 where
   pub elements : AllByRecursion (λ e. IsGiven m e.key) m.list
   pub in_progress : AllByRecursion (λ s. s ≤ m.last_file) m.in_progress
   pub staged : AllByRecursion (λ p. list_any (λ e. is_of 0 p.serial e.key) m.list ≡ false) m.staged
 
--- a delivery holds few capsules. Of items and devices nothing needs to be said: a capsule of too many items is passed
--- over, and a board has few devices.
+-- a delivery holds few capsules. Of items and devices nothing needs to be said: a capsule of too
+-- many items is passed over, and a board has few devices.
 pub record KeepsLimits (f : Formats) : Type 0 where
   pub capsules : (bytes : List ℕ) (found : List Capsule) → f.capsules bytes ≡ Some found →
       length found ≤ MAX_DELIVERY_CAPSULES
@@ -135,10 +147,12 @@ pub record ClosesLast (old new : List Element) : Type 0 where
   pub was_open : IsTrue (is_open last)
   pub closed : new ≡ front ++ record last { standing = Closed (Some end) at } ∷ more
 
--- one list of spent units grew to another: by more elements, of which an open last one was closed before
+-- one list of spent units grew to another: by more elements, of which an open last one was closed
+-- before
 abbrev pub Grows : List Element → List Element → Type 0
 Grows old new = ((more : List Element) × (new ≡ old ++ more)) ⊎ ClosesLast old new
 
 -- no more segments may be laid, or not so many bytes
 abbrev pub IsPastMemory : Machine → List ℕ → Type 0
-IsPastMemory m bytes = (MAX_SEGMENTS ≤ length m.memory) ⊎ (MAX_MEMORY_BYTES < laid_bytes m + length bytes)
+IsPastMemory m bytes =
+    (MAX_SEGMENTS ≤ length m.memory) ⊎ (MAX_MEMORY_BYTES < laid_bytes m + length bytes)

@@ -1,4 +1,5 @@
--- The reference machine: what a platform is between two events. Nothing of banks, records, slots or gates is in it.
+-- The reference machine: what a platform is between two events. Nothing of banks, records, slots or
+-- gates is in it.
 use Rattle.std.specs.Prelude.{ℕ, Bool, false, List, [], pos}
 use Rattle.cu_base.specs.declared.time.EfiTime.{EfiTime}
 use Rattle.reference_machine.specs.declared.snapshot.StagedPair.{StagedPair}
@@ -29,7 +30,19 @@ pub record Machine : Type 0 where
 
 -- 2000-01-01T00:00:00, of no time zone
 abbrev pub first_moment : EfiTime
-first_moment = record { year = 2000; month = 1; day = 1; hour = 0; minute = 0; second = 0; nanosecond = 0; zone = pos 2047; daylight = 0; pad1 = 0; pad2 = 0 }
+first_moment = record {
+  year = 2000;
+  month = 1;
+  day = 1;
+  hour = 0;
+  minute = 0;
+  second = 0;
+  nanosecond = 0;
+  zone = pos 2047;
+  daylight = 0;
+  pad1 = 0;
+  pad2 = 0;
+}
 
 -- a board as it leaves the factory
 abbrev pub fresh : BoardValue → Machine

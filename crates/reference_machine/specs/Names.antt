@@ -1,4 +1,5 @@
--- Names of capsule files: two are one file where they differ in case alone, and files go by their upper-cased names.
+-- Names of capsule files: two are one file where they differ in case alone, and files go by their
+-- upper-cased names.
 use Rattle.std.specs.Prelude.{ℕ, Bool, true, false, if◌then◌else◌, nat_lt, List, [], ◌∷◌, bytes_eq}
 use Rattle.std.specs.Str.{str_to_ascii_uppercase}
 
@@ -10,7 +11,8 @@ is_same_name a b = bytes_eq (str_to_ascii_uppercase a) (str_to_ascii_uppercase b
 abbrev pub is_before : List ℕ → List ℕ → Bool
 is_before a [] = false
 is_before [] (y ∷ ys) = true
-is_before (x ∷ xs) (y ∷ ys) = if nat_lt x y then true else if nat_lt y x then false else is_before xs ys
+is_before (x ∷ xs) (y ∷ ys) =
+    if nat_lt x y then true else if nat_lt y x then false else is_before xs ys
 
 -- whether the file of the first name is taken before that of the second
 abbrev pub is_taken_before : List ℕ → List ℕ → Bool

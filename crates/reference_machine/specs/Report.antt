@@ -25,4 +25,11 @@ report_value r = record {
 
 -- no step yet
 abbrev pub nothing_done : ReportValue
-nothing_done = record { opened = None; steps = 0; lines = []; unstaged = []; removed = []; pending = None }
+nothing_done = record {
+  opened = None;
+  steps = 0;
+  lines = [];
+  unstaged = [];
+  removed = [];
+  pending = None;
+}

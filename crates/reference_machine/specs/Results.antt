@@ -1,5 +1,5 @@
--- What the platform shows of the list of spent units: the last attempt of each device, the result variables (UEFI 2.10,
--- 8.5.6) and the EFI System Resource Table (UEFI 2.10, 23.4).
+-- What the platform shows of the list of spent units: the last attempt of each device, the result
+-- variables (UEFI 2.10, 8.5.6) and the EFI System Resource Table (UEFI 2.10, 23.4).
 use Rattle.std.specs.Prelude.{ℕ, ◌+◌, ◌%◌, ◌^◌, ◌==◌, ◌&&◌, not, List, [], ◌∷◌, map, filter, filter_map, find, slice_get, Option, None, Some, option_map, option_and_then, unwrap_or, if◌then◌else◌}
 use Rattle.std.specs.List.{enumerate_from, last_or, range_with_len}
 use Rattle.cu_base.specs.declared.guid.Guid.{Guid}
@@ -23,8 +23,8 @@ use Rattle.reference_machine.specs.Spent.Standing.{Open, Closed}
 abbrev pub efi_status : ℕ → EfiStatus
 efi_status n = if n == 0 then record { code = 0 } else record { code = 2 ^ 63 + n }
 
--- the number of the EFI_STATUS that tells a LastAttemptStatus, in their order here: SUCCESS, ABORTED, OUT_OF_RESOURCES,
--- INCOMPATIBLE_VERSION, LOAD_ERROR, SECURITY_VIOLATION, NOT_FOUND
+-- the number of the EFI_STATUS that tells a LastAttemptStatus, in their order here: SUCCESS,
+-- ABORTED, OUT_OF_RESOURCES, INCOMPATIBLE_VERSION, LOAD_ERROR, SECURITY_VIOLATION, NOT_FOUND
 abbrev pub efi_numbers : List (ℕ × ℕ)
 efi_numbers =
     (LAST_ATTEMPT_STATUS_SUCCESS, 0)
@@ -47,7 +47,8 @@ attempt_status Kept = LAST_ATTEMPT_STATUS_ERROR_UNSUCCESSFUL
 attempt_status Lost = LAST_ATTEMPT_STATUS_ERROR_UNSUCCESSFUL
 attempt_status (Refused status) = status
 
--- the number of the CapsuleStatus of a unit that tries nothing: LOAD_ERROR for refused bytes, else UNSUPPORTED
+-- the number of the CapsuleStatus of a unit that tries nothing: LOAD_ERROR for refused bytes, else
+-- UNSUPPORTED
 abbrev pub untried_number : Kind → ℕ
 untried_number Bad = 1
 untried_number Skip = 3
@@ -81,19 +82,36 @@ attempt_of e = (e.version, unwrap_or (option_map attempt_status (end_of e)) 0)
 
 -- those of the last closed element on a device, else 0 and 0
 abbrev pub last_attempt : List Element → ℕ → ℕ × ℕ
-last_attempt list d = unwrap_or (option_map attempt_of (last_or None (filter (λ e. is_on d e && is_closed e) list))) (0, 0)
+last_attempt list d =
+    unwrap_or (option_map attempt_of (last_or None (filter (λ e. is_on d e && is_closed e) list)))
+    (0, 0)
 
 -- the name of a device, and nothing where there is none
 abbrev pub device_name : BoardValue → ℕ → List ℕ
 device_name board d = unwrap_or (option_map (λ x. x.name) (slice_get board.devices d)) []
 
--- the part of a result on an FMP payload: a refused delivery and a capsule that was passed over have none
+-- the part of a result on an FMP payload: a refused delivery and a capsule that was passed over
+-- have none
 abbrev pub fmp_part : BoardValue → Element → Kind → Option FmpResult
 fmp_part board e Bad = None
 fmp_part board e Skip = None
 fmp_part board e Heal = None
-fmp_part board e NoTarget = Some (record { payload = e.key.ticket.item; index = e.head.index; type_id = e.head.type_id; file = e.key.name; target = [] })
-fmp_part board e Try = Some (record { payload = e.key.ticket.item; index = e.head.index; type_id = e.head.type_id; file = e.key.name; target = device_name board e.key.device })
+fmp_part board e NoTarget =
+    Some (record {
+      payload = e.key.ticket.item;
+      index = e.head.index;
+      type_id = e.head.type_id;
+      file = e.key.name;
+      target = [];
+    })
+fmp_part board e Try =
+    Some (record {
+      payload = e.key.ticket.item;
+      index = e.head.index;
+      type_id = e.head.type_id;
+      file = e.key.name;
+      target = device_name board e.key.device;
+    })
 
 -- the result variable of an element that was closed at a moment
 abbrev pub result_at : BoardValue → ℕ → Element → Standing → Option CapsuleResult
@@ -109,16 +127,21 @@ result_at board number e (Closed end at) = Some (record {
 -- the last closed element that has a result number
 abbrev pub last_numbered : BoardValue → List Element → ℕ → Option Element
 last_numbered board list n =
-    option_map (λ p. p.1) (last_or None (filter (λ p. result_number board p.0 == n) (enumerate_from 0 (filter is_closed list))))
+    option_map (λ p. p.1)
+    (last_or None
+    (filter (λ p. result_number board p.0 == n) (enumerate_from 0 (filter is_closed list))))
 
 -- the result variables in rising number, each that of the last element with its number
 abbrev pub results_of : BoardValue → List Element → List CapsuleResult
 results_of board list =
-    filter_map (λ n. option_and_then (λ e. result_at board n e e.standing) (last_numbered board list n)) (range_with_len 0 (board.result_max + 1))
+    filter_map (λ n. option_and_then (λ e. result_at board n e e.standing)
+    (last_numbered board list n)) (range_with_len 0 (board.result_max + 1))
 
 -- the number of the last result, none before the first
 abbrev pub last_result : BoardValue → List Element → Option ℕ
-last_result board list = option_map (λ p. result_number board p.0) (last_or None (enumerate_from 0 (filter is_closed list)))
+last_result board list =
+    option_map (λ p. result_number board p.0)
+    (last_or None (enumerate_from 0 (filter is_closed list)))
 
 -- the devices of one type with their numbers, in board order
 abbrev pub devices_of_type : BoardValue → Guid → List (ℕ × DeviceValue)
@@ -128,9 +151,10 @@ devices_of_type board g = filter (λ p. is_same_guid p.1.type_id g) (enumerate_f
 abbrev pub told_attempt : ℕ × ℕ → List (ℕ × ℕ) → ℕ × ℕ
 told_attempt first rest = unwrap_or (find (λ a. not (a.1 == 0)) (first ∷ rest)) first
 
--- the ESRT entry of a type: the least version and the greatest floor of its devices, type and flags of the first one,
--- and the attempt that is told
-abbrev pub esrt_entry : BoardValue → List Element → ℕ × DeviceValue → List (ℕ × DeviceValue) → EsrtEntry
+-- the ESRT entry of a type: the least version and the greatest floor of its devices, type and flags
+-- of the first one, and the attempt that is told
+abbrev pub esrt_entry : BoardValue → List Element → ℕ × DeviceValue → List (ℕ × DeviceValue)
+    → EsrtEntry
 esrt_entry board list (d, x) others = record {
   class = x.type_id;
   fw_type = x.fw_type;
@@ -145,10 +169,14 @@ esrt_entry board list (d, x) others = record {
     attempt = told_attempt (last_attempt list d) (map (λ p. last_attempt list p.0) others)
 
 -- the entry of a device's type, where the device is the first of its type
-abbrev pub esrt_entry_at : BoardValue → List Element → ℕ × DeviceValue → List (ℕ × DeviceValue) → Option EsrtEntry
+abbrev pub esrt_entry_at : BoardValue → List Element → ℕ × DeviceValue → List (ℕ × DeviceValue)
+    → Option EsrtEntry
 esrt_entry_at board list p [] = None
-esrt_entry_at board list p (first ∷ others) = if p.0 == first.0 then Some (esrt_entry board list first others) else None
+esrt_entry_at board list p (first ∷ others) =
+    if p.0 == first.0 then Some (esrt_entry board list first others) else None
 
 -- one entry for each type, in order of first appearance on the board
 abbrev pub esrt_of : BoardValue → List Element → List EsrtEntry
-esrt_of board list = filter_map (λ p. esrt_entry_at board list p (devices_of_type board p.1.type_id)) (enumerate_from 0 board.devices)
+esrt_of board list =
+    filter_map (λ p. esrt_entry_at board list p (devices_of_type board p.1.type_id))
+    (enumerate_from 0 board.devices)

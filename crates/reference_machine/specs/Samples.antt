@@ -1,4 +1,5 @@
--- Samples of what the definitions say: a board of three devices, of which two have one type, and what stands in it.
+-- Samples of what the definitions say: a board of three devices, of which two have one type, and
+-- what stands in it.
 use Rattle.std.specs.Prelude.{ℕ, Bool, false, ◌==◌, nat_lt, List, [], ◌∷◌, map, codes, find, unwrap_or, Option, None, Some, option_map}
 use Rattle.cu_base.specs.declared.guid.Guid.{Guid}
 use Rattle.bench_model.specs.Boards.{BoardValue}
@@ -27,15 +28,45 @@ guid_of n = record { bytes = n ∷ 0 ∷ 0 ∷ 0 ∷ 0 ∷ 0 ∷ 0 ∷ 0 ∷ 0 �
 
 -- the system firmware, of type 1
 abbrev pub system : DeviceValue
-system = record { name = codes "sys"; type_id = guid_of 1; index = 1; instance = 0; fw_type = 1; capacity = 4; version = 3; floor = 2; flags = 0 }
+system = record {
+  name = codes "sys";
+  type_id = guid_of 1;
+  index = 1;
+  instance = 0;
+  fw_type = 1;
+  capacity = 4;
+  version = 3;
+  floor = 2;
+  flags = 0;
+}
 
 -- the first of two controllers of type 2
 abbrev pub first_controller : DeviceValue
-first_controller = record { name = codes "ec0"; type_id = guid_of 2; index = 2; instance = 5; fw_type = 2; capacity = 4; version = 7; floor = 7; flags = 1 }
+first_controller = record {
+  name = codes "ec0";
+  type_id = guid_of 2;
+  index = 2;
+  instance = 5;
+  fw_type = 2;
+  capacity = 4;
+  version = 7;
+  floor = 7;
+  flags = 1;
+}
 
 -- the second one
 abbrev pub second_controller : DeviceValue
-second_controller = record { name = codes "ec1"; type_id = guid_of 2; index = 2; instance = 6; fw_type = 2; capacity = 4; version = 9; floor = 5; flags = 0 }
+second_controller = record {
+  name = codes "ec1";
+  type_id = guid_of 2;
+  index = 2;
+  instance = 6;
+  fw_type = 2;
+  capacity = 4;
+  version = 9;
+  floor = 5;
+  flags = 0;
+}
 
 -- a board of these, with result variables of the numbers 0 to 2
 abbrev pub three_devices : BoardValue
@@ -43,13 +74,20 @@ three_devices = record { bank = 65536; store = 2; two_banks = false; result_max 
 
 -- the header of an item for type 2: its version, index and instance
 abbrev pub head_of : ℕ → ℕ → ℕ → ItemHead
-head_of version index instance = record { version = version; type_id = guid_of 2; index = index; instance = instance; support = 0 }
+head_of version index instance = record {
+  version = version;
+  type_id = guid_of 2;
+  index = index;
+  instance = instance;
+  support = 0;
+}
 
--- items for any instance, for one instance, for one under header version 2, for one under version 1, which has no such
--- field, for an instance that is not there, and for another index
+-- items for any instance, for one instance, for one under header version 2, for one under version
+-- 1, which has no such field, for an instance that is not there, and for another index
 abbrev pub sample_heads : List ItemHead
 sample_heads =
-    head_of 3 2 0 ∷ head_of 3 2 6 ∷ head_of 2 2 6 ∷ head_of 1 2 6 ∷ head_of 2 2 4 ∷ head_of 3 1 0 ∷ []
+    head_of 3 2 0 ∷ head_of 3 2 6 ∷ head_of 2 2 6 ∷ head_of 1 2 6 ∷ head_of 2 2 4
+    ∷ head_of 3 1 0 ∷ []
 
 -- an item of a type that no device has
 abbrev pub stray_item : Item
@@ -63,7 +101,8 @@ controller_item = record { head = head_of 3 2 0; image = [] }
 abbrev pub capsule_of : Guid → ℕ → List Item → Capsule
 capsule_of guid drivers items = record { guid = guid; drivers = drivers; items = items }
 
--- a capsule with items for both controllers and for none, one of another GUID, one with a driver, and one without items
+-- a capsule with items for both controllers and for none, one of another GUID, one with a driver,
+-- and one without items
 abbrev pub sample_capsules : List Capsule
 sample_capsules =
     capsule_of fmp_guid 0 (controller_item ∷ stray_item ∷ [])
@@ -81,7 +120,8 @@ sample_read (x ∷ xs) = Some sample_capsules
 abbrev pub is_below : List ℕ → List (Guid × ℕ) → Bool
 is_below [] versions = false
 is_below (guid ∷ []) versions = false
-is_below (guid ∷ version ∷ rest) versions = unwrap_or (option_map (λ p. nat_lt p.1 version) (find (λ p. first_is p.0.bytes) versions)) false
+is_below (guid ∷ version ∷ rest) versions =
+    unwrap_or (option_map (λ p. nat_lt p.1 version) (find (λ p. first_is p.0.bytes) versions)) false
   where
     first_is : List ℕ → Bool
     first_is [] = false
@@ -103,7 +143,12 @@ sample_formats = record {
 
 -- the key of a unit of a delivery by file
 abbrev pub key_of : ℕ → ℕ → ℕ → ℕ → UnitKey
-key_of capsule item unit device = record { ticket = record { route = 1; capsule = capsule; item = item; serial = 1 }; unit = unit; device = device; name = codes "a.cap" }
+key_of capsule item unit device = record {
+  ticket = record { route = 1; capsule = capsule; item = item; serial = 1 };
+  unit = unit;
+  device = device;
+  name = codes "a.cap";
+}
 
 -- kind and key of each unit of a delivery
 abbrev pub units_told : Option (List ℕ) → List (Kind × UnitKey)
@@ -130,10 +175,12 @@ attempt_on device version floor section standing = record {
 abbrev pub ended : End → Standing
 ended end = Closed (Some end) first_moment
 
--- the first controller took version 8, the second refused version 4, and the system lost its image to version 4
+-- the first controller took version 8, the second refused version 4, and the system lost its image
+-- to version 4
 abbrev pub sample_list : List Element
 sample_list =
-    attempt_on 1 8 6 [] (ended Sealed) ∷ attempt_on 2 4 0 [] (ended (Refused 3)) ∷ attempt_on 0 4 0 [] (ended Lost) ∷ []
+    attempt_on 1 8 6 [] (ended Sealed) ∷ attempt_on 2 4 0 [] (ended (Refused 3))
+    ∷ attempt_on 0 4 0 [] (ended Lost) ∷ []
 
 -- a capsule that was passed over, behind these
 abbrev pub passed_over : Element
@@ -151,14 +198,35 @@ passed_over = record {
 
 -- an item without a target, behind these
 abbrev pub without_target : Element
-without_target = record passed_over { kind = NoTarget; key = key_of 0 1 4 255; capsule = fmp_guid; head = head_of 3 2 0 }
+without_target = record passed_over {
+  kind = NoTarget;
+  key = key_of 0 1 4 255;
+  capsule = fmp_guid;
+  head = head_of 3 2 0;
+}
 
--- what the table is to show: the system lost its image; of the controllers the least version, the greatest floor, the flags
--- of the first, and the attempt that failed
+-- what the table is to show: the system lost its image; of the controllers the least version, the
+-- greatest floor, the flags of the first, and the attempt that failed
 abbrev pub sample_esrt : List EsrtEntry
 sample_esrt =
-    record { class = guid_of 1; fw_type = 1; version = 0; lowest = 2; flags = 0; last_version = 4; last_status = 1 }
-    ∷ record { class = guid_of 2; fw_type = 2; version = 8; lowest = 7; flags = 1; last_version = 4; last_status = 3 }
+    record {
+      class = guid_of 1;
+      fw_type = 1;
+      version = 0;
+      lowest = 2;
+      flags = 0;
+      last_version = 4;
+      last_status = 1;
+    }
+    ∷ record {
+      class = guid_of 2;
+      fw_type = 2;
+      version = 8;
+      lowest = 7;
+      flags = 1;
+      last_version = 4;
+      last_status = 3;
+    }
     ∷ []
 
 -- a machine with these spent units
@@ -169,18 +237,21 @@ machine_with list = record (fresh three_devices) { list = list }
 abbrev pub result_told : CapsuleResult → ℕ × ℕ × Option (List ℕ)
 result_told r = (r.number, r.status.code, option_map (λ p. p.target) r.fmp)
 
--- an attempt on the first controller that a boot finds open, and how the boot closes it: the line's kind and status, and the
--- version that the device has then
+-- an attempt on the first controller that a boot finds open, and how the boot closes it: the line's
+-- kind and status, and the version that the device has then
 abbrev pub healed : End → List (Kind × ℕ × ℕ)
-healed end = map (λ l. (l.kind, l.status.code, version_of three_devices done.machine.list 1)) done.report.lines
+healed end = map
+    (λ l. (l.kind, l.status.code, version_of three_devices done.machine.list 1)) done.report.lines
   where
     done : Rattle.reference_machine.specs.Boots.BootState
     done = boot_of sample_formats (machine_with (attempt_on 1 8 6 [] Open ∷ [])) end
 
--- the system's image asks for a controller below a version; whether an update of a controller keeps what holds
+-- the system's image asks for a controller below a version; whether an update of a controller keeps
+-- what holds
 abbrev pub keeps_it : ℕ → ℕ → ℕ → Bool
 keeps_it below device version =
-    keeps_dependencies sample_formats (machine_with (attempt_on 0 4 0 (2 ∷ below ∷ []) (ended Sealed) ∷ [])) device
+    keeps_dependencies sample_formats
+    (machine_with (attempt_on 0 4 0 (2 ∷ below ∷ []) (ended Sealed) ∷ [])) device
     (record { version = version; lowest = 0; dependency = []; payload = [] })
 
 -- whether an update of the system with a section holds, on a board of its factory images
@@ -191,18 +262,25 @@ own_section_holds section =
 
 -- a capsule header of 28 bytes with flags below 2^24 in their third byte
 abbrev pub header_with : ℕ → List ℕ
-header_with flag = 8 ∷ 0 ∷ 0 ∷ 0 ∷ 0 ∷ 0 ∷ 0 ∷ 0 ∷ 0 ∷ 0 ∷ 0 ∷ 0 ∷ 0 ∷ 0 ∷ 0 ∷ 0 ∷ 28 ∷ 0 ∷ 0 ∷ 0 ∷ 0 ∷ 0 ∷ flag ∷ 0 ∷ 28 ∷ 0 ∷ 0 ∷ 0 ∷ []
+header_with flag =
+    8 ∷ 0 ∷ 0 ∷ 0 ∷ 0 ∷ 0 ∷ 0 ∷ 0 ∷ 0 ∷ 0 ∷ 0 ∷ 0 ∷ 0 ∷ 0 ∷ 0 ∷ 0 ∷ 28 ∷ 0 ∷ 0 ∷ 0 ∷ 0 ∷ 0 ∷ flag
+    ∷ 0 ∷ 28 ∷ 0 ∷ 0 ∷ 0 ∷ []
 
 -- the kinds of the units that a boot spends on a delivery that is staged before a reset
 abbrev pub kinds_after_reset : Bool → List Kind
 kinds_after_reset cold =
     map (λ e. e.kind)
-    (machine_after sample_formats (fresh three_devices) (Lay 4096 (header_with 1) ∷ Stage 4096 ∷ Reset cold ∷ Boot ∷ [])).list
+    (machine_after sample_formats (fresh three_devices)
+    (Lay 4096 (header_with 1) ∷ Stage 4096 ∷ Reset cold ∷ Boot ∷ [])).list
 
 -- two files and two staged deliveries, each pair out of order
 abbrev pub waiting : Machine
 waiting = record (fresh three_devices) {
-  files = record { name = codes "b.cap"; serial = 1; bytes = codes "xyz" } ∷ record { name = codes "A.cap"; serial = 2; bytes = [] } ∷ [];
+  files = record { name = codes "b.cap"; serial = 1; bytes = codes "xyz" } ∷ record {
+    name = codes "A.cap";
+    serial = 2;
+    bytes = [];
+  } ∷ [];
   staged = record { serial = 2; address = 4096 } ∷ record { serial = 1; address = 8192 } ∷ [];
 }
 

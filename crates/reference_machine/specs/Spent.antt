@@ -1,4 +1,5 @@
--- The list of spent units, which only grows, and what is read off it. A place of the list is the front of it up to there.
+-- The list of spent units, which only grows, and what is read off it. A place of the list is the
+-- front of it up to there.
 use Rattle.std.specs.Prelude.{ℕ, Bool, true, false, ◌==◌, ◌&&◌, ◌||◌, not, max, min, List, [], ◌∷◌, length, map, filter, slice_get, Option, None, Some, option_map, unwrap_or, if◌then◌else◌}
 use Rattle.std.specs.List.{enumerate_from, last_or}
 use Rattle.cu_base.specs.declared.guid.Guid.{Guid}
@@ -17,7 +18,8 @@ pub data Standing : Type 0 where
   Open : Standing
   Closed : (end : Option End) → (at : EfiTime) → Standing
 
--- a spent unit, with version, floor, dependency section and payload of its image, which are 0 and empty where there is none
+-- a spent unit, with version, floor, dependency section and payload of its image, which are 0 and
+-- empty where there is none
 pub record Element : Type 0 where
   pub kind : Kind
   pub key : UnitKey
@@ -110,7 +112,8 @@ sealed_floors list d = map (λ e. e.floor) (filter (λ e. is_on d e && is_sealed
 abbrev pub factory_floor : BoardValue → ℕ → ℕ
 factory_floor board d = unwrap_or (option_map (λ x. x.floor) (slice_get board.devices d)) 0
 
--- the floor in force of a device: the greatest of its factory floor and the floors of all images sealed on it
+-- the floor in force of a device: the greatest of its factory floor and the floors of all images
+-- sealed on it
 abbrev pub floor_of : BoardValue → List Element → ℕ → ℕ
 floor_of board list d = greatest (factory_floor board d) (sealed_floors list d)
 
@@ -148,7 +151,8 @@ image_left e = if is_sealed e then Some image else None
 -- the image of a device: what the last Sealed or Lost element on it left, else that of the factory
 abbrev pub image_of : BoardValue → List Element → ℕ → Option Image
 image_of board list d =
-    unwrap_or (option_map image_left (last_or None (filter (λ e. is_on d e && (is_sealed e || is_lost e)) list)))
+    unwrap_or (option_map image_left
+    (last_or None (filter (λ e. is_on d e && (is_sealed e || is_lost e)) list)))
     (option_map factory_image (slice_get board.devices d))
 
 -- the version of a device's image, 0 where it has none
@@ -161,7 +165,8 @@ dependency_of board list d = unwrap_or (option_map (λ i. i.dependency) (image_o
 
 -- the versions of all devices by their types, in board order
 abbrev pub versions_of : BoardValue → List Element → List (Guid × ℕ)
-versions_of board list = map (λ p. (p.1.type_id, version_of board list p.0)) (enumerate_from 0 board.devices)
+versions_of board list =
+    map (λ p. (p.1.type_id, version_of board list p.0)) (enumerate_from 0 board.devices)
 
 -- whether a unit is of the delivery of a route and a serial
 abbrev pub is_of : ℕ → ℕ → UnitKey → Bool

@@ -1,5 +1,6 @@
--- Where a boot may be stopped, and which machines the report of a stopped boot agrees with. A boot is stopped between two
--- steps or inside one: then the machine is that before the step or that after it.
+-- Where a boot may be stopped, and which machines the report of a stopped boot agrees with. A boot
+-- is stopped between two steps or inside one: then the machine is that before the step or that
+-- after it.
 use Rattle.std.specs.Prelude.{ℕ, suc, Bool, true, false, ◌+◌, ◌==◌, ◌&&◌, ◌||◌, not, ◌≡◌, ◌⊎◌, IsTrue, List, [], ◌∷◌, map, Option, None, Some}
 use Rattle.std.specs.List.{list_all, range_with_len}
 use Rattle.reference_machine.specs.declared.unit.End.{End}
@@ -28,7 +29,8 @@ pub data StopCause : Type 0 where
 
 -- the machines at which a boot may be stopped: those after its first j steps, for each j
 abbrev pub stops : Formats → Machine → End → List Machine
-stops f m h = map (λ j. (boot_at f m h j).machine) (range_with_len 0 ((boot_of f m h).report.steps + 1))
+stops f m h =
+    map (λ j. (boot_at f m h j).machine) (range_with_len 0 ((boot_of f m h).report.steps + 1))
 
 -- a unit of this kind is tried
 abbrev pub is_try : Kind → Bool
@@ -38,8 +40,8 @@ is_try Skip = false
 is_try NoTarget = false
 is_try Bad = false
 
--- whether a task belongs to the folder, once nothing of a delivery by memory is open. Of settlements only that of a try
--- may: the heal stands before all deliveries.
+-- whether a task belongs to the folder, once nothing of a delivery by memory is open. Of
+-- settlements only that of a try may: the heal stands before all deliveries.
 abbrev pub is_folder_task : BootTask → Bool
 is_folder_task (Settles kind end) = is_try kind
 is_folder_task (Unstages pair) = false
@@ -86,7 +88,8 @@ IsStoppedAt f m h r new = new ≡ (told_boot f m h r).machine
 abbrev pub IsStoppedAfter : Formats → Machine → End → ReportValue → Machine → Type 0
 IsStoppedAfter f m h r new = new ≡ (boot_at f m h (suc r.steps)).machine
 
--- after a fault of the flash: with a batch in doubt, whose number is told, the next step is this batch and was done or not
+-- after a fault of the flash: with a batch in doubt, whose number is told, the next step is this
+-- batch and was done or not
 abbrev pub AgreesAfterFlash : Formats → Machine → End → ReportValue → Option ℕ → Machine → Type 0
 AgreesAfterFlash f m h r None new = IsStoppedAt f m h r new
 AgreesAfterFlash f m h r (Some number) new =
@@ -94,7 +97,8 @@ AgreesAfterFlash f m h r (Some number) new =
     × (number ≡ (told_boot f m h r).machine.batches + 1)
     × (IsStoppedAt f m h r new ⊎ IsStoppedAfter f m h r new)
 
--- after a fault of the volume: the boot has come to the folder, and a removal in hand was done or not
+-- after a fault of the volume: the boot has come to the folder, and a removal in hand was done or
+-- not
 abbrev pub AgreesAfterVolume : Formats → Machine → End → ReportValue → Machine → Type 0
 AgreesAfterVolume f m h r new =
     IsTrue m.is_signalled
@@ -102,10 +106,11 @@ AgreesAfterVolume f m h r new =
     × (IsStoppedAt f m h r new
     ⊎ (IsTrue (is_removal (told_boot f m h r).left) × IsStoppedAfter f m h r new))
 
--- the report of a boot of m that was stopped for a cause agrees with a machine: it tells the steps that it counts, and the
--- machine is one of those of its cause
+-- the report of a boot of m that was stopped for a cause agrees with a machine: it tells the steps
+-- that it counts, and the machine is one of those of its cause
 abbrev pub Agrees : Formats → Machine → End → ReportValue → StopCause → Machine → Type 0
 Agrees f m h r Flash new =
-    (record r { pending = None } ≡ (told_boot f m h r).report) × AgreesAfterFlash f m h r r.pending new
+    (record r { pending = None } ≡ (told_boot f m h r).report)
+    × AgreesAfterFlash f m h r r.pending new
 Agrees f m h r Volume new = (r ≡ (told_boot f m h r).report) × AgreesAfterVolume f m h r new
 Agrees f m h r Memory new = (r ≡ (told_boot f m h r).report) × IsStoppedAt f m h r new

@@ -1,5 +1,6 @@
--- Whether an item may be tried on a device: the checks before a SetImage in their order, of which the first that fails
--- refuses it with its LastAttemptStatus (UEFI 2.10, 23.4). They follow the checks of EDK II's FmpDevicePkg.
+-- Whether an item may be tried on a device: the checks before a SetImage in their order, of which
+-- the first that fails refuses it with its LastAttemptStatus (UEFI 2.10, 23.4). They follow the
+-- checks of EDK II's FmpDevicePkg.
 use Rattle.std.specs.Prelude.{ℕ, Bool, true, false, ◌==◌, ◌&&◌, ◌||◌, not, nat_le, List, [], ◌∷◌, length, map, slice_get, bytes_eq, Option, None, Some, option_map, unwrap_or, if◌then◌else◌}
 use Rattle.std.specs.List.{list_any, list_all, enumerate_from}
 use Rattle.sha2.specs.Sha256.{sha256}
@@ -49,17 +50,22 @@ abbrev pub is_split : Option Parts → Bool
 is_split None = false
 is_split (Some parts) = true
 
--- the parts of an image. What stands for those that it does not have decides nothing: the first check has failed.
+-- the parts of an image. What stands for those that it does not have decides nothing: the first
+-- check has failed.
 abbrev pub known_parts : Option Parts → Parts
 known_parts None = record { version = 0; lowest = 0; dependency = []; payload = [] }
 known_parts (Some parts) = parts
 
--- the checks of a try whose image has these parts, in their order: whether each passes, and the status where it fails
+-- the checks of a try whose image has these parts, in their order: whether each passes, and the
+-- status where it fails
 abbrev pub checks : Formats → Machine → BootUnit → Option Parts → List (Bool × ℕ)
 checks f m u parts =
     (is_split parts, LAST_ATTEMPT_STATUS_ERROR_INVALID_FORMAT)
     ∷ (is_admitted m.board u.image, LAST_ATTEMPT_STATUS_ERROR_AUTH_ERROR)
-    ∷ (nat_le (length p.payload) (capacity_of m.board d), LAST_ATTEMPT_STATUS_ERROR_INSUFFICIENT_RESOURCES)
+    ∷ (
+      nat_le (length p.payload) (capacity_of m.board d),
+      LAST_ATTEMPT_STATUS_ERROR_INSUFFICIENT_RESOURCES,
+    )
     ∷ (nat_le (floor_of m.board m.list d) p.version, LAST_ATTEMPT_STATUS_ERROR_INCORRECT_VERSION)
     ∷ (keeps_dependencies f m d p, LAST_ATTEMPT_STATUS_ERROR_UNSATISFIED_DEPENDENCIES)
     ∷ []

@@ -1,5 +1,5 @@
-//! What holds of the reference machine, whatever is delivered, whatever fails, and whatever the formats say. Each law is the
-//! contract of a function that does nothing.
+//! What holds of the reference machine, whatever is delivered, whatever fails, and whatever the
+//! formats say. Each law is the contract of a function that does nothing.
 
 ghost use Rattle.std.specs.Prelude.{◌≡◌, ◌<◌, ◌≤◌, ◌^◌, ◌↔◌, ℕ, List, [], ◌++◌, find, length, Some, None, true, false, if◌then◌else◌};
 ghost use Rattle.bench_model.specs.Boards.{BoardValue, IsBoard};
@@ -18,64 +18,81 @@ ghost use Rattle.reference_machine.specs.Verdicts.{refusal_with, is_admitted, ca
 ghost use Rattle.reference_machine.specs.declared.unit.End.{End};
 
 use crate::{
-    MAX_CAPSULE_ITEMS, MAX_DELIVERY_CAPSULES, MAX_FILES, MAX_MEMORY_BYTES, MAX_SEGMENTS, MAX_STAGED,
+    MAX_CAPSULE_ITEMS, MAX_DELIVERY_CAPSULES, MAX_FILES, MAX_FOLDER_BYTES, MAX_MEMORY_BYTES,
+    MAX_SEGMENTS, MAX_STAGED,
 };
 
 /// The floor in force of a device never falls along the list of spent units.
 #[tactic(auto, using(crate::proofs::Floors::never_falls))]
 pub fn floor_never_falls()
-    ensures { (board : BoardValue) (before rest : List Element) (d : ℕ) → floor_of board before d ≤ floor_of board (before ++ rest) d }
+    ensures { (board : BoardValue) (before rest : List Element) (d : ℕ)
+        → floor_of board before d ≤ floor_of board (before ++ rest) d }
 {}
 
 /// No attempt has a version below the floor in force where it stands.
 pub fn attempts_reach_the_floor()
-    ensures { (f : Formats) (board : BoardValue) (m : Machine) → IsReached f board m → AttemptsReachFloor m.board m.list }
+    ensures { (f : Formats) (board : BoardValue) (m : Machine) → IsReached f board m
+        → AttemptsReachFloor m.board m.list }
 {}
 
 /// At most one spent unit is open, and it is the last.
 pub fn the_last_alone_is_open()
-    ensures { (f : Formats) (board : BoardValue) (m : Machine) → IsReached f board m → OpenIsLast m.list }
+    ensures { (f : Formats) (board : BoardValue) (m : Machine) → IsReached f board m
+        → OpenIsLast m.list }
 {}
 
-/// Files have distinct names and distinct serials, and so have staged deliveries; no serial is above the last one.
+/// Files have distinct names and distinct serials, and so have staged deliveries; no serial is
+/// above the last one.
 pub fn deliveries_are_apart()
     ensures { (f : Formats) (board : BoardValue) (m : Machine) → IsReached f board m → AreApart m }
 {}
 
 /// The units of one delivery stand in order, without gaps from 0, and no key stands twice.
 pub fn units_stand_in_order()
-    ensures order { (f : Formats) (board : BoardValue) (m : Machine) → IsReached f board m → StandInOrder m.list }
-    ensures keys { (f : Formats) (board : BoardValue) (m : Machine) → IsReached f board m → HaveDistinctKeys m.list }
+    ensures order { (f : Formats) (board : BoardValue) (m : Machine) → IsReached f board m
+        → StandInOrder m.list }
+    ensures keys { (f : Formats) (board : BoardValue) (m : Machine) → IsReached f board m
+        → HaveDistinctKeys m.list }
 {}
 
 /// A file of which units are spent has its progress stored.
 pub fn spent_files_have_progress()
-    ensures { (f : Formats) (board : BoardValue) (m : Machine) → IsReached f board m → SpentFilesHaveProgress m }
+    ensures { (f : Formats) (board : BoardValue) (m : Machine) → IsReached f board m
+        → SpentFilesHaveProgress m }
 {}
 
-/// Files, staged deliveries and the serials of stored progress are within their limits. The serials of spent units and those of stored progress
-/// are at most the last ones, and a staged delivery has no spent unit.
+/// Files, staged deliveries and the serials of stored progress are within their limits. The serials
+/// of spent units and those of stored progress are at most the last ones, and a staged delivery has
+/// no spent unit.
 pub fn limits_are_kept()
-    ensures limits { (f : Formats) (board : BoardValue) (m : Machine) → IsReached f board m → IsWithinLimits m }
-    ensures serials { (f : Formats) (board : BoardValue) (m : Machine) → IsReached f board m → SerialsAreGiven m }
+    ensures limits { (f : Formats) (board : BoardValue) (m : Machine) → IsReached f board m
+        → IsWithinLimits m }
+    ensures serials { (f : Formats) (board : BoardValue) (m : Machine) → IsReached f board m
+        → SerialsAreGiven m }
 {}
 
-/// A boot has fewer than 2^20 steps, finished or stopped, where a delivery holds at most 8 capsules.
+/// A boot has fewer than 2^20 steps, finished or stopped, where a delivery holds at most 8
+/// capsules.
 pub fn a_boot_is_short()
-    ensures { (f : Formats) (board : BoardValue) (m : Machine) → KeepsLimits f → IsBoard board → IsReached f board m →
+    ensures { (f : Formats) (board : BoardValue) (m : Machine) → KeepsLimits f → IsBoard board
+        → IsReached f board m →
         (h : End) (j : ℕ) → (boot_at f m h j).report.steps < 2 ^ 20 }
 {}
 
-/// Events that tell no fault tell one trace and leave one machine, and there is such a run of any events.
+/// Events that tell no fault tell one trace and leave one machine, and there is such a run of any
+/// events.
 pub fn without_faults_there_is_one_machine()
-    ensures one { (f : Formats) (board : BoardValue) (acts : List Act) (told : List EntryValue) (m : Machine) →
+    ensures one { (f : Formats) (board : BoardValue) (acts : List Act) (told : List EntryValue)
+        (m : Machine) →
         Run f (fresh board) acts told m → TellNoFault told →
         (told ≡ trace_of f (fresh board) acts) × (m ≡ machine_after f (fresh board) acts) }
     ensures some { (f : Formats) (board : BoardValue) (acts : List Act) →
-        Run f (fresh board) acts (trace_of f (fresh board) acts) (machine_after f (fresh board) acts) }
+        Run f (fresh board) acts (trace_of f (fresh board) acts)
+        (machine_after f (fresh board) acts) }
 {}
 
-/// The list of spent units only grows, but for its last element closing: by each event, and by the steps of a boot.
+/// The list of spent units only grows, but for its last element closing: by each event, and by the
+/// steps of a boot.
 pub fn the_list_only_grows()
     ensures events { (f : Formats) (board : BoardValue) (m : Machine) → IsReached f board m →
         (act : Act) (entry : EntryValue) (new : Machine) → Step f m act entry new →
@@ -90,10 +107,12 @@ pub fn a_whole_boot_is_done()
     ensures { (f : Formats) (m : Machine) (h : End) → (boot_of f m h).left ≡ [] }
 {}
 
-/// No boot is stopped by the volume before its heal: where an element is open, a report that agrees then tells a step.
+/// No boot is stopped by the volume before its heal: where an element is open, a report that agrees
+/// then tells a step.
 #[tactic(auto, using(crate::proofs::Reading::healed_before))]
 pub fn the_heal_stands_before_the_volume()
-    ensures { (f : Formats) (m : Machine) (h : End) (r : ReportValue) (new : Machine) (e : Element) →
+    ensures { (f : Formats) (m : Machine) (h : End) (r : ReportValue) (new : Machine)
+        (e : Element) →
         find is_open m.list ≡ Some e → Agrees f m h r Volume new → 0 < r.steps }
 {}
 
@@ -105,7 +124,8 @@ pub fn cut_events_leave_reached_machines()
 
 /// The limits of a platform, in numbers.
 pub fn the_limits_are_these()
-    ensures files { MAX_FILES ≡ 32 }
+    ensures files { MAX_FILES ≡ 64 }
+    ensures folder { MAX_FOLDER_BYTES ≡ 2147483648 }
     ensures staged { MAX_STAGED ≡ 8 }
     ensures segments { MAX_SEGMENTS ≡ 256 }
     ensures memory { MAX_MEMORY_BYTES ≡ 134217728 }
@@ -116,10 +136,12 @@ pub fn the_limits_are_these()
 /// Memory is full exactly where no more segments may be laid, or not so many bytes.
 #[tactic(auto, using(crate::proofs::Reading::memory_full))]
 pub fn memory_is_full_past_its_limits()
-    ensures { (m : Machine) (bytes : List ℕ) → is_memory_full m bytes ≡ true ↔ IsPastMemory m bytes }
+    ensures { (m : Machine) (bytes : List ℕ)
+        → is_memory_full m bytes ≡ true ↔ IsPastMemory m bytes }
 {}
 
-/// The checks of a try stand in this order, each refusing with its LastAttemptStatus (UEFI 2.10, 23.4).
+/// The checks of a try stand in this order, each refusing with its LastAttemptStatus (UEFI 2.10,
+/// 23.4).
 pub fn the_checks_stand_in_order()
     ensures format { (f : Formats) (m : Machine) (u : BootUnit) → refusal_with f m u None ≡ Some 4 }
     ensures admission { (f : Formats) (m : Machine) (u : BootUnit) (p : Parts) →

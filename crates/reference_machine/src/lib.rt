@@ -1,8 +1,9 @@
 //! The reference machine: what a platform that takes capsules is, and what each event makes of it.
 //!
-//! `specs/` says what a delivery is made of, what the list of spent units is and what is read off it, which checks stand before
-//! an attempt, which steps a boot has, and which machine each event leaves. The types are those that these definitions speak of.
-//! The laws say what holds of every machine that is reached, whatever is delivered and whatever fails.
+//! `specs/` says what a delivery is made of, what the list of spent units is and what is read off
+//! it, which checks stand before an attempt, which steps a boot has, and which machine each event
+//! leaves. The types are those that these definitions speak of. The laws say what holds of every
+//! machine that is reached, whatever is delivered and whatever fails.
 #![tactic(auto)]
 
 mod attempt_status;
@@ -31,7 +32,8 @@ pub use laws::{
     the_list_only_grows, units_stand_in_order, without_faults_there_is_one_machine,
 };
 pub use limits::{
-    MAX_CAPSULE_ITEMS, MAX_DELIVERY_CAPSULES, MAX_FILES, MAX_MEMORY_BYTES, MAX_SEGMENTS, MAX_STAGED,
+    MAX_CAPSULE_ITEMS, MAX_DELIVERY_CAPSULES, MAX_FILES, MAX_FOLDER_BYTES, MAX_MEMORY_BYTES,
+    MAX_SEGMENTS, MAX_STAGED,
 };
 pub use report::Report;
 pub use samples::{sample_boots, sample_deliveries, sample_orders, sample_results, sample_staging};

@@ -1,7 +1,10 @@
 //! The limits of a platform that the reference machine names.
 
 /// The most files in the update folder.
-pub const MAX_FILES: usize = 32;
+pub const MAX_FILES: usize = 64;
+
+/// The most bytes of all files in the update folder together.
+pub const MAX_FOLDER_BYTES: usize = 2_147_483_648;
 
 /// The most deliveries that wait in memory.
 pub const MAX_STAGED: usize = 8;

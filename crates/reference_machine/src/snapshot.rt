@@ -12,7 +12,8 @@ pub struct EsrtEntry {
     pub last_status: u32,
 }
 
-/// The part on an FMP payload of a result variable, EFI_CAPSULE_RESULT_VARIABLE_FMP (UEFI 2.10, 8.5.6).
+/// The part on an FMP payload of a result variable, EFI_CAPSULE_RESULT_VARIABLE_FMP (UEFI 2.10,
+/// 8.5.6).
 #[derive(Drop)]
 pub struct FmpResult {
     pub payload: u8,

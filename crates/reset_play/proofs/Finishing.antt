@@ -12,22 +12,28 @@ use Rattle.reset_play.specs.Whole.{task_done, tasks_done}
 use Rattle.reference_machine.proofs.Ending.{weight, weight_most}
 
 -- the first step, and then the others
-steps_first : (f : Formats) (n : ℕ) (b : BootState) → after_steps f (suc n) b ≡ after_steps f n (next f b)
+steps_first : (f : Formats) (n : ℕ) (b : BootState)
+    → after_steps f (suc n) b ≡ after_steps f n (next f b)
 steps_first f zero b = refl
 steps_first f (suc n) b = ap (next f) (steps_first f n b)
 
 abbrev pub progress : Machine → List BootTask → ReportValue → BootState
 progress m left r = record { machine = m; left = left; report = r }
 
-ended_stays : (f : Formats) (n : ℕ) (m : Machine) (r : ReportValue) → after_steps f n (progress m [] r) ≡ progress m [] r
+ended_stays : (f : Formats) (n : ℕ) (m : Machine) (r : ReportValue)
+    → after_steps f n (progress m [] r) ≡ progress m [] r
 ended_stays f zero m r = refl
 ended_stays f (suc n) m r = ap (next f) (ended_stays f n m r)
 
 abbrev Finishes : Formats → List BootTask → Type 0
-Finishes f left = (n : ℕ) (m : Machine) (r : ReportValue) → weight left ≤ n → after_steps f n (progress m left r) ≡ tasks_done f (progress m [] r) left
+Finishes f left =
+    (n : ℕ) (m : Machine) (r : ReportValue) → weight left ≤ n
+    → after_steps f n (progress m left r) ≡ tasks_done f (progress m [] r) left
 
-unit_steps : (f : Formats) (u : BootUnit) (rest : List BootTask) → Finishes f rest → (n : ℕ) (m : Machine) (r : ReportValue) (c : Course) → weight rest + 1 ≤ n
-    → after_steps f n (after_unit f (progress m (Does u ∷ rest) r) u rest c) ≡ tasks_done f (next f (after_unit f (progress m (Does u ∷ []) r) u [] c)) rest
+unit_steps : (f : Formats) (u : BootUnit) (rest : List BootTask) → Finishes f rest
+    → (n : ℕ) (m : Machine) (r : ReportValue) (c : Course) → weight rest + 1 ≤ n
+    → after_steps f n (after_unit f (progress m (Does u ∷ rest) r) u rest c)
+    ≡ tasks_done f (next f (after_unit f (progress m (Does u ∷ []) r) u [] c)) rest
 unit_steps f u rest ih zero m r c h = absurd (omega arith)
 unit_steps f u rest ih (suc n) m r Claim h =
     let p : BootState = after_unit f (progress m (Does u ∷ rest) r) u rest Claim in
@@ -44,17 +50,20 @@ finish_steps f [] n m r h = ended_stays f n m r
 finish_steps f (Does u ∷ rest) zero m r h = absurd (omega arith)
 finish_steps f (Does u ∷ rest) (suc n) m r h =
     let le : weight rest + 1 ≤ n = omega arith in
-    steps_first f n (progress m (Does u ∷ rest) r) ∙ unit_steps f u rest (finish_steps f rest) n m r (course_of f m u u.kind) le
+    steps_first f n (progress m (Does u ∷ rest) r)
+    ∙ unit_steps f u rest (finish_steps f rest) n m r (course_of f m u u.kind) le
 finish_steps f (Settles kind end ∷ rest) zero m r h = absurd (omega arith)
 finish_steps f (Settles kind end ∷ rest) (suc n) m r h =
     let b : BootState = next f (progress m (Settles kind end ∷ rest) r) in
     let le : weight rest ≤ n = omega arith in
-    steps_first f n (progress m (Settles kind end ∷ rest) r) ∙ finish_steps f rest n b.machine b.report le
+    steps_first f n (progress m (Settles kind end ∷ rest) r)
+    ∙ finish_steps f rest n b.machine b.report le
 finish_steps f (Unstages pair ∷ rest) zero m r h = absurd (omega arith)
 finish_steps f (Unstages pair ∷ rest) (suc n) m r h =
     let b : BootState = next f (progress m (Unstages pair ∷ rest) r) in
     let le : weight rest ≤ n = omega arith in
-    steps_first f n (progress m (Unstages pair ∷ rest) r) ∙ finish_steps f rest n b.machine b.report le
+    steps_first f n (progress m (Unstages pair ∷ rest) r)
+    ∙ finish_steps f rest n b.machine b.report le
 finish_steps f (Prunes ∷ rest) zero m r h = absurd (omega arith)
 finish_steps f (Prunes ∷ rest) (suc n) m r h =
     let b : BootState = next f (progress m (Prunes ∷ rest) r) in
@@ -64,7 +73,8 @@ finish_steps f (Removes serial ∷ rest) zero m r h = absurd (omega arith)
 finish_steps f (Removes serial ∷ rest) (suc n) m r h =
     let b : BootState = next f (progress m (Removes serial ∷ rest) r) in
     let le : weight rest ≤ n = omega arith in
-    steps_first f n (progress m (Removes serial ∷ rest) r) ∙ finish_steps f rest n b.machine b.report le
+    steps_first f n (progress m (Removes serial ∷ rest) r)
+    ∙ finish_steps f rest n b.machine b.report le
 finish_steps f (Clears ∷ rest) zero m r h = absurd (omega arith)
 finish_steps f (Clears ∷ rest) (suc n) m r h =
     let b : BootState = next f (progress m (Clears ∷ rest) r) in
@@ -72,10 +82,14 @@ finish_steps f (Clears ∷ rest) (suc n) m r h =
     steps_first f n (progress m (Clears ∷ rest) r) ∙ finish_steps f rest n b.machine b.report le
 
 -- a whole boot is all its work, done piece by piece
-pub boot_finish : (f : Formats) (m : Machine) (h : End) → boot_of f m h ≡ tasks_done f (progress m [] (boot_start f m h).report) (boot_tasks f m h)
-boot_finish f m h = finish_steps f (boot_tasks f m h) (2 * length (boot_tasks f m h)) m (boot_start f m h).report (weight_most (boot_tasks f m h))
+pub boot_finish : (f : Formats) (m : Machine) (h : End)
+    → boot_of f m h ≡ tasks_done f (progress m [] (boot_start f m h).report) (boot_tasks f m h)
+boot_finish f m h =
+    finish_steps f (boot_tasks f m h) (2 * length (boot_tasks f m h)) m (boot_start f m h).report
+    (weight_most (boot_tasks f m h))
 
 -- work in two parts
-pub finish_append : (f : Formats) (xs ys : List BootTask) (b : BootState) → tasks_done f b (xs ++ ys) ≡ tasks_done f (tasks_done f b xs) ys
+pub finish_append : (f : Formats) (xs ys : List BootTask) (b : BootState)
+    → tasks_done f b (xs ++ ys) ≡ tasks_done f (tasks_done f b xs) ys
 finish_append f [] ys b = refl
 finish_append f (x ∷ xs) ys b = finish_append f xs ys (task_done f b x)

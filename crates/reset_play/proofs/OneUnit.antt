@@ -27,19 +27,28 @@ two_not_one n h =
     let never : true ≡ false = sym h ∙ no in
     cc
 
-targets_one : (h : ItemHead) (devices : List DeviceValue) → (length devices == 1) ≡ true → list_any (is_target h) devices ≡ true → map (λ (p : ℕ × DeviceValue). p.0) (filter (λ (p : ℕ × DeviceValue). is_target h p.1) (enumerate_from 0 devices)) ≡ 0 ∷ []
+targets_one : (h : ItemHead) (devices : List DeviceValue) → (length devices == 1) ≡ true
+    → list_any (is_target h) devices ≡ true
+    → map (λ (p : ℕ × DeviceValue). p.0)
+    (filter (λ (p : ℕ × DeviceValue). is_target h p.1) (enumerate_from 0 devices)) ≡ 0 ∷ []
 targets_one h [] one any = cc
-targets_one h (d ∷ []) one any = ap (λ b. map (λ (p : ℕ × DeviceValue). p.0) (cond b ((0, d) ∷ []) [])) (either_left (is_target h d) any)
+targets_one h (d ∷ []) one any =
+    ap (λ b. map (λ (p : ℕ × DeviceValue). p.0) (cond b ((0, d) ∷ []) []))
+    (either_left (is_target h d) any)
 targets_one h (d ∷ e ∷ rest) one any = absurd (two_not_one (length rest) one)
 
 -- its units are this one
-pub units_one : (board : BoardValue) (x : File) → IsTrue (has_one_device board) → IsTrue (is_thin_on board x.bytes) → units thin (file_delivery x) board ≡ file_unit x ∷ []
+pub units_one : (board : BoardValue) (x : File) → IsTrue (has_one_device board)
+    → IsTrue (is_thin_on board x.bytes) → units thin (file_delivery x) board ≡ file_unit x ∷ []
 units_one board x one on =
     let t : is_thin x.bytes ≡ true = both_left _ _ on in
-    let ts : targets (thin_item x.bytes).head board ≡ 0 ∷ [] = targets_one (thin_item x.bytes).head board.devices one (both_right (is_thin x.bytes) _ on) in
+    let ts : targets (thin_item x.bytes).head board ≡ 0 ∷ [] =
+    targets_one (thin_item x.bytes).head board.devices one
+    (both_right (is_thin x.bytes) _ on) in
     rw (t, ts)
 
-drop_one : (n : ℕ) (u : BootUnit) → map Does (drop n (u ∷ [])) ≡ (cond (not (n == 0)) [] (Does u ∷ []))
+drop_one : (n : ℕ) (u : BootUnit)
+    → map Does (drop n (u ∷ [])) ≡ (cond (not (n == 0)) [] (Does u ∷ []))
 drop_one zero u = refl
 drop_one (suc n) u =
     let none : drop n (no_units) ≡ [] = drop-nil n in
@@ -50,18 +59,26 @@ drop_one (suc n) u =
     no_units = []
 
 -- the work on it, by whether the unit is spent
-pub work_one : (m : Machine) (x : File) → IsTrue (has_one_device m.board) → IsTrue (is_thin_on m.board x.bytes) → file_tasks thin m x ≡ marked_tasks x (not (spent m.list x.serial == 0))
+pub work_one : (m : Machine) (x : File) → IsTrue (has_one_device m.board)
+    → IsTrue (is_thin_on m.board x.bytes)
+    → file_tasks thin m x ≡ marked_tasks x (not (spent m.list x.serial == 0))
 work_one m x one on =
-    ap (λ us. map Does (drop (spent m.list x.serial) us) ++ Removes x.serial ∷ []) (units_one m.board x one on)
+    ap (λ us. map Does (drop (spent m.list x.serial) us) ++ Removes x.serial ∷ [])
+    (units_one m.board x one on)
     ∙ ap (λ w. w ++ Removes x.serial ∷ []) (drop_one (spent m.list x.serial) (file_unit x))
 
 -- the work on such files
-pub works_marked : (m : Machine) (xs : List File) → IsTrue (has_one_device m.board) → IsTrue (list_all (λ (x : File). is_thin_on m.board x.bytes) xs) → flat_map (file_tasks thin m) xs ≡ all_marked_tasks xs (marks_of m.list xs)
+pub works_marked : (m : Machine) (xs : List File) → IsTrue (has_one_device m.board)
+    → IsTrue (list_all (λ (x : File). is_thin_on m.board x.bytes) xs)
+    → flat_map (file_tasks thin m) xs ≡ all_marked_tasks xs (marks_of m.list xs)
 works_marked m [] one all = refl
 works_marked m (x ∷ xs) one all =
-    let head : file_tasks thin m x ≡ marked_tasks x (not (spent m.list x.serial == 0)) = work_one m x one (both_left _ _ all) in
-    let tail : flat_map (file_tasks thin m) xs ≡ all_marked_tasks xs (marks_of m.list xs) = works_marked m xs one (both_right (is_thin_on m.board x.bytes) _ all) in
-    ap (λ w. w ++ flat_map (file_tasks thin m) xs) head ∙ ap (λ w. marked_tasks x (not (spent m.list x.serial == 0)) ++ w) tail
+    let head : file_tasks thin m x ≡ marked_tasks x (not (spent m.list x.serial == 0)) =
+    work_one m x one (both_left _ _ all) in
+    let tail : flat_map (file_tasks thin m) xs ≡ all_marked_tasks xs (marks_of m.list xs) =
+    works_marked m xs one (both_right (is_thin_on m.board x.bytes) _ all) in
+    ap (λ w. w ++ flat_map (file_tasks thin m) xs) head
+    ∙ ap (λ w. marked_tasks x (not (spent m.list x.serial == 0)) ++ w) tail
 
 both : (a b : Bool) → a ≡ true → b ≡ true → IsTrue (a && b)
 both true true h k = refl
@@ -69,20 +86,28 @@ both true false h k = k
 both false b h k = h
 
 -- what holds of all items holds of them in order
-inserted_all : {X : Type 0} (p : X → Bool) (before : X → X → Bool) (x : X) (ys : List X) → p x ≡ true → IsTrue (list_all p ys) → IsTrue (list_all p (inserted before x ys))
+inserted_all : {X : Type 0} (p : X → Bool) (before : X → X → Bool) (x : X) (ys : List X)
+    → p x ≡ true → IsTrue (list_all p ys) → IsTrue (list_all p (inserted before x ys))
 inserted_all p before x [] h all = both (p x) true h refl
 inserted_all p before x (y ∷ ys) h all =
-    elim (before y x) as (λ b. IsTrue (list_all p (cond b (y ∷ inserted before x ys) (x ∷ y ∷ ys)))) [
-      | true ↦ both (p y) (list_all p (inserted before x ys)) (both_left (p y) _ all) (inserted_all p before x ys h (both_right (p y) _ all))
+    elim (before y x) as
+    (λ b. IsTrue (list_all p (cond b (y ∷ inserted before x ys) (x ∷ y ∷ ys)))) [
+      | true ↦ both (p y) (list_all p (inserted before x ys)) (both_left (p y) _ all)
+          (inserted_all p before x ys h (both_right (p y) _ all))
       | false ↦ both (p x) (list_all p (y ∷ ys)) h all
     ]
 
-pub ordered_all : {X : Type 0} (p : X → Bool) (before : X → X → Bool) (xs : List X) → IsTrue (list_all p xs) → IsTrue (list_all p (in_order before xs))
+pub ordered_all : {X : Type 0} (p : X → Bool) (before : X → X → Bool) (xs : List X)
+    → IsTrue (list_all p xs) → IsTrue (list_all p (in_order before xs))
 ordered_all p before [] all = refl
-ordered_all p before (x ∷ xs) all = inserted_all p before x (in_order before xs) (both_left (p x) _ all) (ordered_all p before xs (both_right (p x) _ all))
+ordered_all p before (x ∷ xs) all =
+    inserted_all p before x (in_order before xs) (both_left (p x) _ all)
+    (ordered_all p before xs (both_right (p x) _ all))
 
 -- what holds of all items holds of each
-pub all_at : {X : Type 0} (p : X → Bool) (xs : List X) (i : ℕ) (d : X) → i < length xs → IsTrue (list_all p xs) → IsTrue (p (get_or xs i d))
+pub all_at : {X : Type 0} (p : X → Bool) (xs : List X) (i : ℕ) (d : X) → i < length xs
+    → IsTrue (list_all p xs) → IsTrue (p (get_or xs i d))
 all_at p [] i d h all = absurd (omega arith)
 all_at p (x ∷ xs) zero d h all = both_left (p x) _ all
-all_at p (x ∷ xs) (suc i) d h all = let lt : i < length xs = omega arith in all_at p xs i d lt (both_right (p x) _ all)
+all_at p (x ∷ xs) (suc i) d h all = let lt : i < length xs =
+    omega arith in all_at p xs i d lt (both_right (p x) _ all)

@@ -21,34 +21,46 @@ sum_within x y n h = grind (arith, h)
 -- the image of a thin delivery ends within it
 pub image_end : (b : List ℕ) → is_thin b ≡ true → 92 + number_at b 68 4 ≤ length b
 image_end b h =
-    let image : has_thin_image b ≡ true = second (nat_le 92 (length b) && has_thin_header b && has_thin_body b) (has_thin_image b) h in
-    let end : (92 + number_at b 68 4 + number_at b 72 4 == length b) ≡ true = second (number_at b 44 4 == 3 && number_at b 84 8 == 0) _ image in
+    let image : has_thin_image b ≡ true =
+    second (nat_le 92 (length b) && has_thin_header b && has_thin_body b)
+    (has_thin_image b) h in
+    let end : (92 + number_at b 68 4 + number_at b 72 4 == length b) ≡ true =
+    second (number_at b 44 4 == 3 && number_at b 84 8 == 0) _ image in
     sum_within (number_at b 68 4) (number_at b 72 4) (length b) end
 
 -- the number in one byte
 pub one_byte : (b : List ℕ) (at d : ℕ) → at < length b → get_or b at d ≡ number_at b at 1
-one_byte b at d h = let e : get_or b at d + 256 * 0 ≡ get_or b at d = omega arith in sym (ap (λ (l : List ℕ). number (take 1 l)) (drop-cons b at d h) ∙ e)
+one_byte b at d h = let e : get_or b at d + 256 * 0 ≡ get_or b at d =
+    omega arith in sym (ap (λ (l : List ℕ). number (take 1 l)) (drop-cons b at d h) ∙ e)
 
 -- an item of these fields is that of the delivery
-pub item_read : (b : List ℕ) (guid : Guid) (index instance : ℕ) (image : List ℕ) → guid.bytes ≡ field b 48 16 → index ≡ number_at b 64 1 → instance ≡ number_at b 76 8 → image ≡ field b 92 (number_at b 68 4) →
+pub item_read : (b : List ℕ) (guid : Guid) (index instance : ℕ) (image : List ℕ)
+    → guid.bytes ≡ field b 48 16 → index ≡ number_at b 64 1 → instance ≡ number_at b 76 8
+    → image ≡ field b 92 (number_at b 68 4) →
     ◌≡◌ {A = Item} (record { head = thin_head guid index instance; image = image }) (thin_item b)
 item_read b guid index instance image eg ei en em = λ i. record {
   head = thin_head (record { bytes = eg i }) (ei i) (en i);
   image = em i;
 }
 
-target_said : (b : Bool) (item said : Item) (devices : List DeviceValue) → Some item ≡ (if b then Some said else None) → list_any (is_target item.head) devices ≡ (b && list_any (is_target said.head) devices)
-target_said true item said devices h = ap (λ (o : Option Item). list_any (is_target (unwrap_or o said).head) devices) h
+target_said : (b : Bool) (item said : Item) (devices : List DeviceValue)
+    → Some item ≡ (if b then Some said else None)
+    → list_any (is_target item.head) devices ≡ (b && list_any (is_target said.head) devices)
+target_said true item said devices h =
+    ap (λ (o : Option Item). list_any (is_target (unwrap_or o said).head) devices) h
 target_said false item said devices h = grind (arith, h)
 
 -- a delivery that says an item is thin, and has a target where the item has one
-pub thin_on : (board : BoardValue) (b : List ℕ) (item : Item) → Some item ≡ thin_said b → list_any (is_target item.head) board.devices ≡ is_thin_on board b
+pub thin_on : (board : BoardValue) (b : List ℕ) (item : Item) → Some item ≡ thin_said b
+    → list_any (is_target item.head) board.devices ≡ is_thin_on board b
 thin_on board b item h = target_said (is_thin b) item (thin_item b) board.devices h
 
-nothing_said : (b : Bool) (said : Item) (devices : List DeviceValue) → None ≡ (if b then Some said else None) → false ≡ (b && list_any (is_target said.head) devices)
+nothing_said : (b : Bool) (said : Item) (devices : List DeviceValue)
+    → None ≡ (if b then Some said else None) → false ≡ (b && list_any (is_target said.head) devices)
 nothing_said true said devices h = grind (arith, h)
 nothing_said false said devices h = refl
 
 -- a delivery that says none is not
-pub not_thin_on : (board : BoardValue) (b : List ℕ) → None ≡ thin_said b → false ≡ is_thin_on board b
+pub not_thin_on : (board : BoardValue) (b : List ℕ) → None ≡ thin_said b
+    → false ≡ is_thin_on board b
 not_thin_on board b h = nothing_said (is_thin b) (thin_item b) board.devices h

@@ -1,4 +1,5 @@
--- A play on lists: a board of one device, and a script whose events are drop, signal and boot, over thin inputs.
+-- A play on lists: a board of one device, and a script whose events are drop, signal and boot, over
+-- thin inputs.
 use Rattle.std.specs.Prelude.{ℕ, Bool, true, false, ◌&&◌, ◌==◌, List, [], map, length, unwrap_or}
 use Rattle.std.specs.List.{list_any}
 use Rattle.bench_model.specs.Boards.{BoardValue}

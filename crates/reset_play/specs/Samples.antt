@@ -21,25 +21,32 @@ sample_type = 0xAA ∷ 0xAA ∷ 0xAA ∷ 0xAA ∷ 0 ∷ 0 ∷ 0 ∷ 0 ∷ 0 ∷ 
 
 -- an image: signature, HeaderSize, version, lowest supported version, and the payload
 abbrev pub sample_image : ℕ → ℕ → List ℕ → List ℕ
-sample_image version lowest payload = codes "MSS1" ++ small 16 ++ small version ++ small lowest ++ payload
+sample_image version lowest payload =
+    codes "MSS1" ++ small 16 ++ small version ++ small lowest ++ payload
 
 -- a capsule of 92 bytes and an image: capsule header, FMP header, offset, image header
 abbrev pub sample_capsule : ℕ → List ℕ → List ℕ
 sample_capsule size image =
-    0xED ∷ 0xD5 ∷ 0xCB ∷ 0x6D ∷ 0x2D ∷ 0xE8 ∷ 0x44 ∷ 0x4C ∷ 0xBD ∷ 0xA1 ∷ 0x71 ∷ 0x94 ∷ 0x19 ∷ 0x9A ∷ 0xD9 ∷ 0x2A ∷ small 28
+    0xED ∷ 0xD5 ∷ 0xCB ∷ 0x6D ∷ 0x2D ∷ 0xE8 ∷ 0x44 ∷ 0x4C ∷ 0xBD ∷ 0xA1 ∷ 0x71 ∷ 0x94 ∷ 0x19 ∷ 0x9A
+    ∷ 0xD9 ∷ 0x2A ∷ small 28
     ++ 0 ∷ 0 ∷ 5 ∷ 0 ∷ small (92 + size) ++ small 1 ++ 0 ∷ 0 ∷ 1 ∷ 0 ∷ small 16 ++ small 0
-    ++ small 3 ++ sample_type ++ 1 ∷ 0 ∷ 0 ∷ 0 ∷ small size ++ small 0 ++ small 0 ++ small 0 ++ small 0 ++ small 0 ++ image
+    ++ small 3 ++ sample_type ++ 1 ∷ 0 ∷ 0 ∷ 0 ∷ small size ++ small 0 ++ small 0 ++ small 0
+    ++ small 0 ++ small 0 ++ image
 
--- version 4 with floor 3, and versions 2 and 1 with floor 0, each with the payload `PQ`; one of version 5 that is not listed,
--- and one of version 6 that is longer than the device takes
+-- version 4 with floor 3, and versions 2 and 1 with floor 0, each with the payload `PQ`; one of
+-- version 5 that is not listed, and one of version 6 that is longer than the device takes
 abbrev pub sample_images : List (List ℕ × List ℕ)
 sample_images =
-    (codes "c4", sample_image 4 3 (codes "PQ")) ∷ (codes "c2", sample_image 2 0 (codes "PQ")) ∷ (codes "c1", sample_image 1 0 (codes "PQ"))
-    ∷ (codes "c5", sample_image 5 0 (codes "PQ")) ∷ (codes "c6", sample_image 6 0 (codes "PQRST")) ∷ []
+    (codes "c4", sample_image 4 3 (codes "PQ")) ∷ (codes "c2", sample_image 2 0 (codes "PQ"))
+    ∷ (codes "c1", sample_image 1 0 (codes "PQ"))
+    ∷ (codes "c5", sample_image 5 0 (codes "PQ"))
+    ∷ (codes "c6", sample_image 6 0 (codes "PQRST")) ∷ []
 
 -- an input that is no capsule
 abbrev pub sample_inputs : List (List ℕ × List ℕ)
-sample_inputs = (codes "x", codes "no capsule") ∷ map (λ p. (p.0, sample_capsule (length p.1) p.1)) sample_images
+sample_inputs =
+    (codes "x", codes "no capsule")
+    ∷ map (λ p. (p.0, sample_capsule (length p.1) p.1)) sample_images
 
 -- the bytes of a sample input
 abbrev pub bytes_of : List ℕ → List ℕ
@@ -47,7 +54,9 @@ bytes_of name = unwrap_or (option_map (λ p. p.1) (find (λ p. bytes_eq p.0 name
 
 -- the image of version 5 is not listed
 abbrev pub sample_digests : List Digest
-sample_digests = map (λ p. record { bytes = sha256 p.1 }) (filter (λ p. not (bytes_eq p.0 (codes "c5"))) sample_images)
+sample_digests =
+    map (λ p. record { bytes = sha256 p.1 })
+    (filter (λ p. not (bytes_eq p.0 (codes "c5"))) sample_images)
 
 -- one device, of version 3 and floor 2, that takes payloads of at most 4 bytes
 abbrev pub sample_device : DeviceValue
@@ -75,28 +84,36 @@ drop file input = events.Drop file input
 abbrev pub sample_text : ℕ → List Event → List ℕ
 sample_text result_max script =
     trace_text (sample_board result_max) script
-    (map (λ said. said.answer) (trace_of thin (fresh (sample_board result_max)) (map (act_of bytes_of) script)))
+    (map (λ said. said.answer)
+    (trace_of thin (fresh (sample_board result_max)) (map (act_of bytes_of) script)))
 
--- a file of an equal upper-cased name is replaced; the same bytes delivered again are another delivery
+-- a file of an equal upper-cased name is replaced; the same bytes delivered again are another
+-- delivery
 abbrev pub redelivery : List Event
 redelivery =
-    drop (codes "a.cap") (codes "c4") ∷ drop (codes "A.CAP") (codes "c4") ∷ events.Signal ∷ events.Boot
+    drop (codes "a.cap") (codes "c4") ∷ drop (codes "A.CAP") (codes "c4") ∷ events.Signal
+    ∷ events.Boot
     ∷ drop (codes "a.cap") (codes "c4") ∷ events.Signal ∷ events.Boot ∷ []
 
 -- two files in one boot, of which the second has a version below the floor
 abbrev pub lower_version : List Event
-lower_version = drop (codes "a.cap") (codes "c2") ∷ drop (codes "b.cap") (codes "c1") ∷ events.Signal ∷ events.Boot ∷ []
+lower_version =
+    drop (codes "a.cap") (codes "c2") ∷ drop (codes "b.cap") (codes "c1") ∷ events.Signal
+    ∷ events.Boot ∷ []
 
--- files go by upper-cased names; a payload that is too long is refused, and an image that is not listed, before its version is
+-- files go by upper-cased names; a payload that is too long is refused, and an image that is not
+-- listed, before its version is
 abbrev pub refusals : List Event
 refusals =
-    drop (codes "C.cap") (codes "x") ∷ drop (codes "B.cap") (codes "c5") ∷ drop (codes "a.cap") (codes "c6")
+    drop (codes "C.cap") (codes "x") ∷ drop (codes "B.cap") (codes "c5")
+    ∷ drop (codes "a.cap") (codes "c6")
     ∷ events.Boot ∷ events.Signal ∷ events.Boot ∷ events.Boot ∷ events.Show ∷ []
 
 -- more results than there are numbers
 abbrev pub wrapping : List Event
 wrapping =
-    drop (codes "c.cap") (codes "c4") ∷ drop (codes "b.cap") (codes "c4") ∷ drop (codes "a.cap") (codes "c4")
+    drop (codes "c.cap") (codes "c4") ∷ drop (codes "b.cap") (codes "c4")
+    ∷ drop (codes "a.cap") (codes "c4")
     ∷ events.Signal ∷ events.Boot ∷ events.Show ∷ []
 
 -- lines as a text

@@ -59,12 +59,14 @@ FitsChoice (Fill byte) = byte < 256
 -- what an event of a script may hold
 abbrev pub Fits : Event → Type 0
 Fits (Time now) =
-    IsTrue (is_in_calendar now) × (now ≡ moment now.year now.month now.day now.hour now.minute now.second)
+    IsTrue (is_in_calendar now)
+    × (now ≡ moment now.year now.month now.day now.hour now.minute now.second)
 Fits (Drop file input) = IsTrue (is_file_name file) × IsTrue (is_input_name input)
 Fits Signal = Unit {0}
 Fits (Lay at input) = (at < 2 ^ 64) × IsTrue (is_input_name input)
 Fits (Poke at bytes) =
-    (at < 2 ^ 64) × (1 ≤ length bytes) × (length bytes ≤ MAX_POKE_BYTES) × AllByRecursion (λ b. b < 256) bytes
+    (at < 2 ^ 64) × (1 ≤ length bytes) × (length bytes ≤ MAX_POKE_BYTES)
+    × AllByRecursion (λ b. b < 256) bytes
 Fits (Stage at) = at < 2 ^ 64
 Fits Boot = Unit {0}
 Fits (Arm after choice) = (after ≤ MAX_COUNT) × FitsChoice choice

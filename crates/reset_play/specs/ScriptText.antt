@@ -1,4 +1,5 @@
--- The text of a script: lines with a line feed between any two, each of them skipped, an event or refused.
+-- The text of a script: lines with a line feed between any two, each of them skipped, an event or
+-- refused.
 use Rattle.std.specs.Prelude.{ℕ, ◌+◌, Bool, ◌||◌, not, ◌==◌, nat_lt, if◌then◌else◌, List, [], ◌∷◌, ◌++◌, length, slice_index, Option, Some, None, Result, Ok, Err}
 use Rattle.std.specs.List.{list_all}
 use Rattle.reference_machine.specs.declared.event.Event.{Event}
@@ -43,18 +44,20 @@ behind events (Ok more) = Ok (events ++ more)
 behind events (Err fault) = Err fault
 
 -- what a script says from a line on: that of this line, with that of the lines behind it
-abbrev pub with_line : ℕ → ℕ → Result (Option Event) ScriptKind → ScriptSaid → ScriptSaid → ScriptSaid
+abbrev pub with_line : ℕ → ℕ → Result (Option Event) ScriptKind → ScriptSaid → ScriptSaid
+    → ScriptSaid
 with_line line before (Err kind) skipped taken = Err (line, kind)
 with_line line before (Ok None) skipped taken = skipped
 with_line line before (Ok (Some event)) skipped taken =
     if nat_lt before MAX_EVENTS then behind (event ∷ []) taken else Err (line, TooMany)
 
--- what lines say, where the first has this number and so many events stand before it: their events, or the number of the
--- first line that is refused, and why
+-- what lines say, where the first has this number and so many events stand before it: their events,
+-- or the number of the first line that is refused, and why
 abbrev pub lines_said : ℕ → ℕ → List (List ℕ) → ScriptSaid
 lines_said line before [] = Ok []
 lines_said line before (text ∷ lines) =
-    with_line line before (line_said text) (lines_said (line + 1) before lines) (lines_said (line + 1) (before + 1) lines)
+    with_line line before (line_said text) (lines_said (line + 1) before lines)
+    (lines_said (line + 1) (before + 1) lines)
 
 -- what a whole text says
 abbrev pub script_said : List ℕ → ScriptSaid

@@ -27,7 +27,9 @@ is_within low high n = nat_le low n && nat_le n high
 
 -- a letter, a digit, `.`, `_` or `-`
 abbrev pub is_name_byte : ℕ → Bool
-is_name_byte b = is_within 65 90 b || is_within 97 122 b || is_within 48 57 b || (b == 46) || (b == 95) || (b == 45)
+is_name_byte b =
+    is_within 65 90 b || is_within 97 122 b || is_within 48 57 b || (b == 46) || (b == 95)
+    || (b == 45)
 
 -- 1 to 40 of those bytes
 abbrev pub is_file_name : List ℕ → Bool
@@ -39,7 +41,9 @@ is_input_name word = is_within 1 MAX_INPUT_NAME (length word) && list_all (is_wi
 
 -- decimal digits, of which the first is 0 only where it stands alone
 abbrev pub is_decimal : List ℕ → Bool
-is_decimal word = nat_le 1 (length word) && ((length word == 1) || not (slice_index word 0 == 48)) && list_all is_ascii_digit word
+is_decimal word =
+    nat_le 1 (length word) && ((length word == 1) || not (slice_index word 0 == 48))
+    && list_all is_ascii_digit word
 
 -- the number of decimal digits, with the number before them
 abbrev pub decimal_behind : ℕ → List ℕ → ℕ
@@ -49,7 +53,8 @@ decimal_behind n (c ∷ cs) = decimal_behind (10 * n + (c - 48)) cs
 -- the decimal number of a word, where it is one within the limits
 abbrev pub number_within : ℕ → ℕ → List ℕ → Option ℕ
 number_within low high word =
-    if is_decimal word && is_within low high (decimal_behind 0 word) then Some (decimal_behind 0 word) else None
+    if is_decimal word && is_within low high (decimal_behind 0 word)
+    then Some (decimal_behind 0 word) else None
 
 -- a hexadecimal digit of either case, and its value
 abbrev pub is_hex_digit : ℕ → Bool
@@ -67,7 +72,8 @@ hex_behind n (c ∷ cs) = hex_behind (16 * n + hex_value c) cs
 -- the hexadecimal number of a word of so many digits
 abbrev pub hex_number : ℕ → ℕ → List ℕ → Option ℕ
 hex_number least most word =
-    if is_within least most (length word) && list_all is_hex_digit word then Some (hex_behind 0 word) else None
+    if is_within least most (length word) && list_all is_hex_digit word
+    then Some (hex_behind 0 word) else None
 
 -- 1 to 16 hexadecimal digits
 abbrev pub address : List ℕ → Option ℕ
@@ -82,7 +88,8 @@ hex_pairs (c ∷ d ∷ rest) = (16 * hex_value c + hex_value d) ∷ hex_pairs re
 -- an even number of hexadecimal digits, of 1 to 4,096 bytes
 abbrev pub is_hex_bytes : List ℕ → Bool
 is_hex_bytes word =
-    (length word % 2 == 0) && is_within 2 (2 * MAX_POKE_BYTES) (length word) && list_all is_hex_digit word
+    (length word % 2 == 0) && is_within 2 (2 * MAX_POKE_BYTES) (length word)
+    && list_all is_hex_digit word
 
 -- the bytes of such digits
 abbrev pub hex_bytes : List ℕ → Option (List ℕ)

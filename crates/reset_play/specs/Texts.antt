@@ -1,5 +1,5 @@
--- The text of a trace. Each event has one line, and the lines of a boot and of what is shown stand before it, with two spaces
--- in front.
+-- The text of a trace. Each event has one line, and the lines of a boot and of what is shown stand
+-- before it, with two spaces in front.
 use Rattle.std.specs.Prelude.{ℕ, true, false, ◌+◌, ◌/◌, ◌%◌, ◌^◌, ◌==◌, List, [], ◌∷◌, ◌++◌, length, flat_map, slice_get, codes, decimal, Option, None, Some, option_map, unwrap_or, if◌then◌else◌}
 use Rattle.std.specs.Fmt.{digit_glyph, radix_digits}
 use Rattle.cu_base.specs.declared.status.EfiStatus.{EfiStatus}
@@ -41,7 +41,8 @@ dash = codes "-"
 abbrev pub hex_pair : ℕ → List ℕ
 hex_pair n = digit_glyph true (n / 16) ∷ digit_glyph true (n % 16) ∷ []
 
--- the name of a result variable: `Capsule` and four upper-case hexadecimal digits (UEFI 2.10, 8.5.6)
+-- the name of a result variable: `Capsule` and four upper-case hexadecimal digits (UEFI 2.10,
+-- 8.5.6)
 abbrev pub result_name : ℕ → List ℕ
 result_name n = codes "Capsule" ++ hex_pair (n / 256) ++ hex_pair (n % 256)
 
@@ -59,7 +60,8 @@ kind_word Bad = codes "bad"
 
 -- where a unit comes from: the serial of a delivery by memory, or the name of a file
 abbrev pub source_text : Ticket → List ℕ → List ℕ
-source_text ticket name = if ticket.route == 0 then codes "mem:" ++ decimal ticket.serial else codes "file:" ++ name
+source_text ticket name =
+    if ticket.route == 0 then codes "mem:" ++ decimal ticket.serial else codes "file:" ++ name
 
 -- a refused delivery has no capsule
 abbrev pub capsule_text : Kind → ℕ → List ℕ
@@ -92,12 +94,14 @@ device_text board d = unwrap_or (option_map (λ x. x.name) (slice_get board.devi
 -- where a line of a boot comes from and where to it goes: source, capsule, item, target
 abbrev pub key_words : BoardValue → UnitLine → List (List ℕ)
 key_words board l =
-    source_text l.key.ticket l.key.name ∷ capsule_text l.kind l.key.ticket.capsule ∷ item_text l.kind l.key.ticket.item
+    source_text l.key.ticket l.key.name ∷ capsule_text l.kind l.key.ticket.capsule
+    ∷ item_text l.kind l.key.ticket.item
     ∷ attempt_text l.kind (device_text board l.key.device) ∷ []
 
 -- and how it ended: status, version, result
 abbrev pub end_words : UnitLine → List (List ℕ)
-end_words l = status_text l.status ∷ attempt_text l.kind (decimal l.version) ∷ result_name l.result ∷ []
+end_words l =
+    status_text l.status ∷ attempt_text l.kind (decimal l.version) ∷ result_name l.result ∷ []
 
 -- a line of a boot
 abbrev pub unit_text : BoardValue → UnitLine → List ℕ
@@ -106,7 +110,9 @@ unit_text board l = indented (kind_word l.kind) (key_words board l ++ end_words 
 -- the line of an ESRT entry
 abbrev pub esrt_text : EsrtEntry → List ℕ
 esrt_text e =
-    indented (codes "esrt") (guid_text e.class ∷ decimal e.fw_type ∷ decimal e.version ∷ decimal e.lowest ∷ decimal e.flags
+    indented (codes "esrt")
+    (guid_text e.class ∷ decimal e.fw_type ∷ decimal e.version ∷ decimal e.lowest
+    ∷ decimal e.flags
     ∷ decimal e.last_version ∷ decimal e.last_status ∷ [])
 
 -- a text, or a dash for the empty one
@@ -121,7 +127,9 @@ fmp_words (Some p) = decimal p.payload ∷ decimal p.index ∷ or_dash p.file �
 
 -- the line of a result
 abbrev pub result_text : CapsuleResult → List ℕ
-result_text r = indented (codes "result") (result_name r.number ∷ status_text r.status ∷ guid_text r.guid ∷ fmp_words r.fmp)
+result_text r =
+    indented (codes "result")
+    (result_name r.number ∷ status_text r.status ∷ guid_text r.guid ∷ fmp_words r.fmp)
 
 -- the line of the last result
 abbrev pub last_text : Option ℕ → List ℕ
@@ -136,10 +144,12 @@ file_text x = indented (codes "file") (x.name ∷ decimal x.serial ∷ decimal x
 abbrev pub staged_text : StagedPair → List ℕ
 staged_text p = indented (codes "staged") (decimal p.serial ∷ radix_digits 16 false p.address ∷ [])
 
--- what the platform shows: the ESRT, the results, the last of them, the files and the staged deliveries
+-- what the platform shows: the ESRT, the results, the last of them, the files and the staged
+-- deliveries
 abbrev pub picture_text : SnapshotValue → List ℕ
 picture_text p =
-    flat_map esrt_text p.esrt ++ flat_map result_text p.results ++ last_text p.last ++ flat_map file_text p.files ++ flat_map staged_text p.staged
+    flat_map esrt_text p.esrt ++ flat_map result_text p.results ++ last_text p.last
+    ++ flat_map file_text p.files ++ flat_map staged_text p.staged
 
 -- the lines before an event's own
 abbrev pub lines_before : BoardValue → AnswerValue → List ℕ
@@ -200,8 +210,11 @@ event_line n event answer = line (decimal n) (event_word event ∷ answer_words 
 abbrev pub entries_text : BoardValue → ℕ → List Event → List AnswerValue → List ℕ
 entries_text board n [] answers = []
 entries_text board n (event ∷ events) [] = []
-entries_text board n (event ∷ events) (answer ∷ answers) = lines_before board answer ++ event_line n event answer ++ entries_text board (n + 1) events answers
+entries_text board n (event ∷ events) (answer ∷ answers) =
+    lines_before board answer ++ event_line n event answer
+    ++ entries_text board (n + 1) events answers
 
 -- events count from 1; the last line tells how many there are
 abbrev pub trace_text : BoardValue → List Event → List AnswerValue → List ℕ
-trace_text board events answers = entries_text board 1 events answers ++ line (codes "done") (decimal (length events) ∷ [])
+trace_text board events answers =
+    entries_text board 1 events answers ++ line (codes "done") (decimal (length events) ∷ [])

@@ -1,6 +1,6 @@
--- Thin deliveries: one FMP capsule with HeaderSize 28, no driver, one image of header version 3, no byte before the item and
--- none behind its vendor code, and neither authentication data nor dependencies (UEFI 2.10, 8.5.3 and 23.3; the payload
--- header is EDK II's FmpPayloadHeader).
+-- Thin deliveries: one FMP capsule with HeaderSize 28, no driver, one image of header version 3, no
+-- byte before the item and none behind its vendor code, and neither authentication data nor
+-- dependencies (UEFI 2.10, 8.5.3 and 23.3; the payload header is EDK II's FmpPayloadHeader).
 use Rattle.std.specs.Prelude.{ℕ, Bool, true, ◌+◌, ◌==◌, ◌&&◌, ◌||◌, not, nat_lt, nat_le, List, [], ◌∷◌, length, drop, bytes_eq, Option, None, Some, if◌then◌else◌}
 use Rattle.cu_base.specs.Fields.{field, number_at}
 use Rattle.reference_machine.specs.Deliveries.{fmp_guid}
@@ -8,15 +8,20 @@ use Rattle.reference_machine.specs.Formats.{Item, Capsule, Parts, Formats}
 
 -- the capsule header: the GUID at 0, HeaderSize at 16, CapsuleImageSize at 24
 abbrev pub has_thin_header : List ℕ → Bool
-has_thin_header b = bytes_eq (field b 0 16) fmp_guid.bytes && number_at b 16 4 == 28 && number_at b 24 4 == length b
+has_thin_header b =
+    bytes_eq (field b 0 16) fmp_guid.bytes && number_at b 16 4 == 28 && number_at b 24 4 == length b
 
 -- the FMP header at 28: version 1, no driver, one item; and the offset of the item, 16
 abbrev pub has_thin_body : List ℕ → Bool
-has_thin_body b = number_at b 28 4 == 1 && number_at b 32 2 == 0 && number_at b 34 2 == 1 && number_at b 36 8 == 16
+has_thin_body b =
+    number_at b 28 4 == 1 && number_at b 32 2 == 0 && number_at b 34 2 == 1
+    && number_at b 36 8 == 16
 
 -- the image header at 44: version 3, support 0, and sizes of image and vendor code up to the end
 abbrev pub has_thin_image : List ℕ → Bool
-has_thin_image b = number_at b 44 4 == 3 && number_at b 84 8 == 0 && 92 + number_at b 68 4 + number_at b 72 4 == length b
+has_thin_image b =
+    number_at b 44 4 == 3 && number_at b 84 8 == 0
+    && 92 + number_at b 68 4 + number_at b 72 4 == length b
 
 -- the bytes are a thin delivery
 abbrev pub is_thin : List ℕ → Bool
@@ -25,23 +30,31 @@ is_thin b = nat_le 92 (length b) && has_thin_header b && has_thin_body b && has_
 -- the item of a thin delivery: type at 48, index at 64, instance at 76, image from 92 on
 abbrev pub thin_item : List ℕ → Item
 thin_item b = record {
-  head = record { version = 3; type_id = record { bytes = field b 48 16 }; index = number_at b 64 1; instance = number_at b 76 8; support = 0 };
+  head = record {
+    version = 3;
+    type_id = record { bytes = field b 48 16 };
+    index = number_at b 64 1;
+    instance = number_at b 76 8;
+    support = 0;
+  };
   image = field b 92 (number_at b 68 4);
 }
 
 -- the one capsule of a thin delivery
 abbrev pub thin_capsules : List ℕ → Option (List Capsule)
 thin_capsules b =
-    if is_thin b then Some (record { guid = fmp_guid; drivers = 0; items = thin_item b ∷ [] } ∷ []) else None
+    if is_thin b then Some (record { guid = fmp_guid; drivers = 0; items = thin_item b ∷ [] } ∷ [])
+    else None
 
--- the payload header of an image of support 0 is refused: fewer than 16 bytes, another signature than `MSS1`, or a
--- HeaderSize below 16 or above the image
+-- the payload header of an image of support 0 is refused: fewer than 16 bytes, another signature
+-- than `MSS1`, or a HeaderSize below 16 or above the image
 abbrev pub is_refused : List ℕ → Bool
 is_refused image =
     nat_lt (length image) 16 || not (bytes_eq (field image 0 4) (0x4D ∷ 0x53 ∷ 0x53 ∷ 0x31 ∷ []))
     || nat_lt (number_at image 4 4) 16 || nat_lt (length image) (number_at image 4 4)
 
--- the parts of an image of support 0: FwVersion at 8, LowestSupportedVersion at 12, the payload behind the header
+-- the parts of an image of support 0: FwVersion at 8, LowestSupportedVersion at 12, the payload
+-- behind the header
 abbrev pub plain_parts : List ℕ → ℕ → Option Parts
 plain_parts image support =
     if is_refused image
@@ -53,7 +66,8 @@ plain_parts image support =
       payload = drop (number_at image 4 4) image;
     })
 
--- the formats as far as thin deliveries by file need them: there is no dependency section to ask for
+-- the formats as far as thin deliveries by file need them: there is no dependency section to ask
+-- for
 abbrev pub thin : Formats
 thin = record {
   capsules = thin_capsules;

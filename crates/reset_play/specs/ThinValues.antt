@@ -16,7 +16,13 @@ use Rattle.reset_play.specs.Thin.{is_thin, thin_item}
 
 -- the header of a thin item: of version 3, for images of support 0
 abbrev pub thin_head : Guid → ℕ → ℕ → ItemHead
-thin_head type_id index instance = record { version = 3; type_id = type_id; index = index; instance = instance; support = 0 }
+thin_head type_id index instance = record {
+  version = 3;
+  type_id = type_id;
+  index = index;
+  instance = instance;
+  support = 0;
+}
 
 -- the item that a value says
 abbrev pub item_of : ThinItem → Item
@@ -28,7 +34,12 @@ thin_said bytes = if is_thin bytes then Some (thin_item bytes) else None
 
 -- the parts that a value says, without a dependency section
 abbrev pub parts_of : PlainParts → Parts
-parts_of p = record { version = p.version; lowest = p.lowest; dependency = []; payload = p.payload.now }
+parts_of p = record {
+  version = p.version;
+  lowest = p.lowest;
+  dependency = [];
+  payload = p.payload.now;
+}
 
 -- what a standing says: no event of a play on lists moves the clock
 abbrev pub standing_of : Standing → spent.Standing

@@ -1,4 +1,5 @@
--- A boot by whole pieces of work: a unit that is claimed is settled at once. A boot that nothing stops comes to the same.
+-- A boot by whole pieces of work: a unit that is claimed is settled at once. A boot that nothing
+-- stops comes to the same.
 use Rattle.std.specs.Prelude.{◌≤◌, IsTrue, true, length, List, [], ◌∷◌, ◌++◌, Bool, Option, None, Some, ◌==◌, map, not, if◌then◌else◌}
 use Rattle.std.specs.List.{list_all}
 use Rattle.bench_model.specs.Boards.{BoardValue}
@@ -32,18 +33,30 @@ tasks_done f b (w ∷ ws) = tasks_done f (task_done f b w) ws
 
 -- the key of the one unit of a thin file that has a target on a board of one device
 abbrev pub file_key : File → UnitKey
-file_key x = record { ticket = record { route = 1; capsule = 0; item = 0; serial = x.serial }; unit = 0; device = 0; name = x.name }
+file_key x = record {
+  ticket = record { route = 1; capsule = 0; item = 0; serial = x.serial };
+  unit = 0;
+  device = 0;
+  name = x.name;
+}
 
 -- the one unit of such a file
 abbrev pub file_unit : File → BootUnit
-file_unit x = record { kind = Try; key = file_key x; capsule = fmp_guid; head = item.head; image = item.image }
+file_unit x = record {
+  kind = Try;
+  key = file_key x;
+  capsule = fmp_guid;
+  head = item.head;
+  image = item.image;
+}
   where
     item : Item
     item = thin_item x.bytes
 
 -- the work on such a file, by whether its unit is spent
 abbrev pub marked_tasks : File → Bool → List BootTask
-marked_tasks x is_spent = (if is_spent then [] else Does (file_unit x) ∷ []) ++ Removes x.serial ∷ []
+marked_tasks x is_spent =
+    (if is_spent then [] else Does (file_unit x) ∷ []) ++ Removes x.serial ∷ []
 
 -- the work on such files, with a mark for each
 abbrev pub all_marked_tasks : List File → List Bool → List BootTask
@@ -70,8 +83,10 @@ abbrev pub is_claim_open : Option Element → Bool
 is_claim_open None = true
 is_claim_open (Some e) = is_open e
 
--- what holds of each platform: one device, few files, each thin with a target, and only the last element may be open
-pub record IsListPlatform (board : BoardValue) (files : List File) (closed : List Element) (claimed : Option Element) : Type 0 where
+-- what holds of each platform: one device, few files, each thin with a target, and only the last
+-- element may be open
+pub record IsListPlatform (board : BoardValue) (files : List File) (closed : List Element)
+    (claimed : Option Element) : Type 0 where
   pub one : IsTrue (has_one_device board)
   pub few : length files ≤ MAX_FILES
   pub thin : IsTrue (list_all (λ x. is_thin_on board x.bytes) files)

@@ -1,4 +1,5 @@
-//! What the definitions of a play come to. Each law is the contract of a function that does nothing.
+//! What the definitions of a play come to. Each law is the contract of a function that does
+//! nothing.
 
 ghost use Rattle.std.specs.Prelude.{◌≡◌};
 ghost use Rattle.reference_machine.specs.Laws.{KeepsLimits};
@@ -11,8 +12,9 @@ pub fn thin_deliveries_keep_limits()
     ensures { KeepsLimits thin }
 {}
 
-/// What the definitions say of four scripts on a board of one device is what these scripts are to print: a file that is
-/// delivered again, a version below the floor, the checks in their order, and results past the greatest number.
+/// What the definitions say of four scripts on a board of one device is what these scripts are to
+/// print: a file that is delivered again, a version below the floor, the checks in their order, and
+/// results past the greatest number.
 pub fn sample_plays()
     ensures redelivery { sample_text 15 redelivery ≡ text_of redelivery_lines }
     ensures lower_version { sample_text 15 lower_version ≡ text_of lower_version_lines }

@@ -1,5 +1,5 @@
-//! Plays on lists: the plain program of the reference machine, for a board of one device and deliveries
-//! by file.
+//! Plays on lists: the plain program of the reference machine, for a board of one device and
+//! deliveries by file.
 
 mod attempt;
 mod delivery;

@@ -18,8 +18,8 @@ pub enum ScriptKind {
     TooMany,
 }
 
-/// Why a script is refused: its first line that is, counted from 1, and why that line is. Or memory ran
-/// out.
+/// Why a script is refused: its first line that is, counted from 1, and why that line is. Or memory
+/// ran out.
 #[derive(Clone, Copy, Debug, PartialEq, Eq, Error)]
 pub enum ScriptFault {
     #[error("line {line}: {kind}")]

@@ -47,7 +47,7 @@ fn take_line(
         ≡ behind script.new.items (lines_said (number + 1) (length script.new.items) rest)) }
     ensures err { IfErr result (λ fault. (rest : List (List ℕ)) →
         Refuses fault (lines_said number (length script.old.items) (line.now ∷ rest))) }
-    ensures short { length script.old.items ≤ MAX_EVENTS → length script.new.items ≤ MAX_EVENTS }
+    ensures bound { length script.old.items ≤ MAX_EVENTS → length script.new.items ≤ MAX_EVENTS }
 {
     if line.is_empty() {
         return Ok(());
@@ -70,17 +70,17 @@ fn take_line(
     }
 }
 
-/// The events of a script. Lines are separated by line feeds, empty lines and lines that begin with `#`
-/// are skipped, and each other line is an event: words with one space between any two, of which the
-/// first says which event it is.
+/// The events of a script. Lines are separated by line feeds, empty lines and lines that begin with
+/// `#` are skipped, and each other line is an event: words with one space between any two, of which
+/// the first says which event it is.
 ///
-/// The first line that is refused decides: as `BadText` where it has a byte outside 0x20 to 0x7E, then
-/// as `BadEvent` where the first word is no event, then as `BadOperand` where the other words are too
-/// many, too few or out of form, then as `TooMany` where 4,096 events stand before it.
+/// The first line that is refused decides: as `BadText` where it has a byte outside 0x20 to 0x7E,
+/// then as `BadEvent` where the first word is no event, then as `BadOperand` where the other words
+/// are too many, too few or out of form, then as `TooMany` where 4,096 events stand before it.
 pub fn read_script(alloc: Global, bytes: &[u8]) -> Result<Script, ScriptFault>
     requires { length bytes.now < 2 ^ 32 }
     ensures value { GivesScript result (script_said bytes.now) }
-    ensures short { IfOk result (λ script. length script.items ≤ MAX_EVENTS) }
+    ensures bound { IfOk result (λ script. length script.items ≤ MAX_EVENTS) }
 {
     let mut script = Script::new(alloc);
     let mut text = bytes;

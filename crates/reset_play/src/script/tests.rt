@@ -254,6 +254,49 @@ fn a_poke_has_at_most_4096_bytes(rt: HostRuntime) -> Result<(), Fail> {
     Ok(())
 }
 
+// A line that drops a file of one long name as an input of another.
+fn drop_line(alloc: Global, file: usize, input: usize) -> Result<String, AllocError> {
+    let file = repeated(alloc, "f", file)?;
+    let input = repeated(alloc, "i", input)?;
+    format!(in alloc; "drop {file} {input}")
+}
+
+#[test]
+fn faults_are_told_in_words(rt: HostRuntime) -> Result<(), Fail> {
+    let cases = [
+        (
+            "caf\u{e9}",
+            "line 1: a byte that is no printable ASCII character",
+        ),
+        ("\nbot", "line 2: the first word is no event"),
+        (
+            "fail 0",
+            "line 1: the operands are too many, too few or out of form",
+        ),
+    ];
+    for (text, wanted) in cases {
+        match read(&rt, rt.alloc(), text) {
+            Ok(_) => panic!(&rt; "{text}"),
+            Err(fault) => {
+                assert_eq!(rt; format!(in rt.alloc(); "{fault}")?.as_str(), wanted);
+            }
+        }
+    }
+    Ok(())
+}
+
+#[test]
+fn names_have_at_most_40_and_64_bytes(rt: HostRuntime) -> Result<(), Fail> {
+    let line = drop_line(rt.alloc(), 40, 64)?;
+    let script = read(&rt, rt.alloc(), line.as_str())?;
+    assert_eq!(rt; script.len(), 1);
+    for (file, input) in [(41, 64), (40, 65), (0, 64), (40, 0)] {
+        let line = drop_line(rt.alloc(), file, input)?;
+        refuses(&rt, rt.alloc(), line.as_str(), 1, ScriptKind::BadOperand);
+    }
+    Ok(())
+}
+
 #[test]
 fn inputs_are_named_once(rt: HostRuntime) -> Result<(), Fail> {
     let text = "drop a c2\nlay 0 c1\ndrop b c2\nboot\ndrop c c10\nlay 1 c1\n";

@@ -12,15 +12,18 @@ use bench_model::Board;
 use cu_base::{NoMemory, Text};
 use std::alloc::Global;
 
-/// The text of a trace: for each event `N EVENT ANSWER`, with the lines of a boot and of what is shown
-/// before it, and at the end `done N` with the number of events.
+/// The text of a trace: for each event `N EVENT ANSWER`, with the lines of a boot and of what is
+/// shown before it, and at the end `done N` with the number of events.
 pub fn trace_text(
     alloc: Global,
     board: &Board,
     script: &Script,
     trace: &Trace,
 ) -> Result<Text, NoMemory>
-    ensures value { IfOk result (λ text. text ≡ trace_text board.now script.now.items (map (λ e. answer_value e.answer) trace.now.items)) }
+    ensures value { IfOk result
+        (λ text. text
+        ≡ trace_text board.now script.now.items
+        (map (λ e. answer_value e.answer) trace.now.items)) }
 {
     let mut out = Text::from_str(alloc, "")?;
     push_entries(&mut out, alloc, board, script.as_slice(), trace.as_slice())?;
@@ -37,7 +40,9 @@ fn push_entries(
     script: &[Event],
     trace: &[Entry],
 ) -> Result<(), NoMemory>
-    ensures { OnOk result (out.new ≡ out.old ++ entries_text board.now 1 script.now (map (λ e. answer_value e.answer) trace.now)) }
+    ensures { OnOk result
+        (out.new ≡ out.old
+        ++ entries_text board.now 1 script.now (map (λ e. answer_value e.answer) trace.now)) }
 {
     let count = script.len().min(trace.len());
     for i in 0..count {
@@ -78,7 +83,8 @@ fn push_event_line(
     event: &Event,
     answer: &Answer,
 ) -> Result<(), NoMemory>
-    ensures { OnOk result (out.new ≡ out.old ++ event_line number event.now (answer_value answer.now)) }
+    ensures { OnOk result
+        (out.new ≡ out.old ++ event_line number event.now (answer_value answer.now)) }
 {
     push_number(out, number)?;
     push_word_part(out, event_word(event))?;

@@ -99,7 +99,8 @@ fn push_item_part(out: &mut Text, kind: Kind, item: u8) -> Result<(), NoMemory>
 }
 
 fn push_device_part(out: &mut Text, kind: Kind, board: &Board, device: u8) -> Result<(), NoMemory>
-    ensures { OnOk result (out.new ≡ out.old ++ 32 ∷ attempt_text kind (device_text board.now device)) }
+    ensures { OnOk result
+        (out.new ≡ out.old ++ 32 ∷ attempt_text kind (device_text board.now device)) }
 {
     match kind {
         Kind::Try | Kind::Heal => push_word_part(out, device_name(board, device))?,

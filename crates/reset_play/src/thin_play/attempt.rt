@@ -35,9 +35,12 @@ fn key_of(alloc: Global, file: &StoredFile<'_>) -> Result<UnitKey, NoMemory>
 
 // The parts of an image: 0, 0 and nothing where it has none.
 fn parts_of(image: &[u8]) -> PlainParts<'_>
-    ensures version { result.version ≡ unwrap_or (option_map (λ p. p.version) (plain_parts image.now 0)) 0 }
-    ensures lowest { result.lowest ≡ unwrap_or (option_map (λ p. p.lowest) (plain_parts image.now 0)) 0 }
-    ensures payload { result.payload.now ≡ unwrap_or (option_map (λ p. p.payload) (plain_parts image.now 0)) [] }
+    ensures version { result.version
+        ≡ unwrap_or (option_map (λ p. p.version) (plain_parts image.now 0)) 0 }
+    ensures lowest { result.lowest
+        ≡ unwrap_or (option_map (λ p. p.lowest) (plain_parts image.now 0)) 0 }
+    ensures payload { result.payload.now
+        ≡ unwrap_or (option_map (λ p. p.payload) (plain_parts image.now 0)) [] }
 {
     match read_parts(image) {
         Some(parts) => parts,

@@ -11,8 +11,8 @@ use bench_model::{Board, Device};
 use cu_base::{Guid, guid_at, u16_at, u32_at, u64_at};
 use fmp_headers::FMP_CAPSULE_GUID;
 
-/// The bytes before the image of a thin delivery: a capsule header, an FMP header with one offset and an
-/// image header of version 3.
+/// The bytes before the image of a thin delivery: a capsule header, an FMP header with one offset
+/// and an image header of version 3.
 pub const THIN_HEADER_BYTES: usize = 92;
 
 /// The fewest bytes of a payload header: signature, size, version and lowest supported version.
@@ -55,7 +55,8 @@ fn has_thin_header(bytes: &[u8]) -> bool
         && u32_at(bytes, 24) as usize == bytes.len()
 }
 
-// Whether the FMP header has version 1, no driver and one item, which stands right behind its offset.
+// Whether the FMP header has version 1, no driver and one item, which stands right behind its
+// offset.
 fn has_thin_body(bytes: &[u8]) -> bool
     requires { THIN_HEADER_BYTES ≤ length bytes.now }
     ensures { result ≡ has_thin_body bytes.now }
@@ -66,7 +67,8 @@ fn has_thin_body(bytes: &[u8]) -> bool
         && u64_at(bytes, 36) == 16
 }
 
-// Whether the image header has version 3 and support 0, and image and vendor code end with the bytes.
+// Whether the image header has version 3 and support 0, and image and vendor code end with the
+// bytes.
 fn has_thin_image(bytes: &[u8]) -> bool
     requires { THIN_HEADER_BYTES ≤ length bytes.now }
     ensures { result ≡ has_thin_image bytes.now }

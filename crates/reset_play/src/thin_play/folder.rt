@@ -1,8 +1,9 @@
 //! The update folder of a play on lists.
 
-ghost use Rattle.std.specs.Prelude.{◌≡◌, ◌≤◌, length, not, IfOk, OnOk, OnErr, position};
+ghost use Rattle.std.specs.Prelude.{◌≡◌, ◌≤◌, ◌-◌, ◌^◌, min, length, if◌then◌else◌, not, IfOk, OnOk, OnErr, position};
 ghost use Rattle.std.specs.List.{list_any, position_or_len};
 ghost use Rattle.reference_machine.specs.Boots.{is_file};
+ghost use Rattle.reference_machine.specs.Events.{bytes_beside};
 ghost use Rattle.reference_machine.specs.Names.{is_same_name, is_taken_before};
 ghost use Rattle.reference_machine.specs.Order.{in_order, inserted};
 
@@ -93,6 +94,30 @@ pub fn has_serial(files: &[StoredFile<'_>], serial: u64) -> bool
     files.iter().any(|file| file.serial == serial)
 }
 
+// How many bytes a file has, and none where it has this name.
+fn bytes_but(file: &StoredFile<'_>, name: &str) -> usize
+    ensures { result
+        ≡ (if is_same_name (file.now).name name.now then 0 else length (file.now).bytes) }
+{
+    if is_same_name(file.name(), name) {
+        0
+    } else {
+        file.bytes.len()
+    }
+}
+
+/// How many bytes the files of other names have, up to the greatest number.
+#[tactic(auto, using(crate::proofs::FolderLemmas::bytes_more))]
+pub fn bytes_beside(files: &[StoredFile<'_>], name: &str) -> usize
+    ensures { result ≡ min (bytes_beside files.now name.now) (2 ^ 64 - 1) }
+{
+    let mut sum = 0usize;
+    for file in files {
+        sum = sum.saturating_add(bytes_but(file, name));
+    }
+    sum
+}
+
 // A file with a name of its own.
 fn copy_of<'a>(alloc: Global, file: &StoredFile<'a>) -> Result<StoredFile<'a>, NoMemory>
     ensures { IfOk result (λ copy. copy ≡ file.now) }
@@ -117,7 +142,8 @@ fn first_behind(files: &[StoredFile<'_>], name: &str) -> Option<usize>
 // How many files stand before the first that is not taken before one of this name.
 #[tactic(auto, using(crate::proofs::FolderLemmas::none_passes, crate::proofs::FolderLemmas::place_at_most))]
 fn place_of(files: &[StoredFile<'_>], name: &str) -> usize
-    ensures place { result ≡ position_or_len (λ x. not (is_taken_before x.name name.now)) files.now }
+    ensures value { result
+        ≡ position_or_len (λ x. not (is_taken_before x.name name.now)) files.now }
     ensures bound { result ≤ length files.now }
 {
     match first_behind(files, name) {
@@ -128,7 +154,9 @@ fn place_of(files: &[StoredFile<'_>], name: &str) -> usize
 
 // Puts a file before the first that is not taken before it.
 fn put_in_order<'a>(ordered: &mut Vec<StoredFile<'a>>, file: StoredFile<'a>) -> Result<(), NoMemory>
-    ensures ok { OnOk result (ordered.new.items ≡ inserted (λ a b. is_taken_before a.name b.name) file.entry ordered.old.items) }
+    ensures ok { OnOk result
+        (ordered.new.items
+        ≡ inserted (λ a b. is_taken_before a.name b.name) file.entry ordered.old.items) }
     ensures err { OnErr result (ordered.new.items ≡ ordered.old.items) }
 {
     let place = place_of(ordered, file.name());
@@ -144,7 +172,8 @@ pub fn ordered_files<'a>(
     alloc: Global,
     files: &[StoredFile<'a>],
 ) -> Result<Vec<StoredFile<'a>>, NoMemory>
-    ensures { IfOk result (λ ordered. ordered.items ≡ in_order (λ a b. is_taken_before a.name b.name) files.now) }
+    ensures { IfOk result
+        (λ ordered. ordered.items ≡ in_order (λ a b. is_taken_before a.name b.name) files.now) }
 {
     let mut ordered = Vec::new(alloc);
     let mut left = files.len();

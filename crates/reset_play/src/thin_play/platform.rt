@@ -13,9 +13,9 @@ ghost use Rattle.reset_play.specs.Plays.{has_one_device, is_thin_on};
 ghost use Rattle.reset_play.specs.Thin.{thin};
 ghost use Rattle.reference_machine.specs.TraceValues.{answer_value, entry_value};
 
-use super::folder::{StoredFile, has_file, is_same_name};
+use super::folder::{StoredFile, bytes_beside, has_file, is_same_name};
 use super::spent::{SpentTries, SpentTry};
-use crate::{Answer, Entry, MAX_FILES, Serials};
+use crate::{Answer, Entry, MAX_FILES, MAX_FOLDER_BYTES, Serials};
 use bench_model::Board;
 use cu_base::{Items, NoMemory, Text};
 use std::alloc::Global;
@@ -43,7 +43,20 @@ impl<'a> Model for ListPlatform<'a> {
 
     ghost Value = { Machine };
 
-    ghost view = { λ p. record { board = p.board.now; now = first_moment; files = p.files.items; last_file = p.last_file; memory = []; staged = []; last_staged = 0; is_signalled = p.asked; list = p.done.items ++ open_rest p.claimed; in_progress = p.in_progress.items; batches = p.batches; failed = false } };
+    ghost view = { λ p. record {
+      board = p.board.now;
+      now = first_moment;
+      files = p.files.items;
+      last_file = p.last_file;
+      memory = [];
+      staged = [];
+      last_staged = 0;
+      is_signalled = p.asked;
+      list = p.done.items ++ open_rest p.claimed;
+      in_progress = p.in_progress.items;
+      batches = p.batches;
+      failed = false;
+    } };
 
     ghost invariant = { λ p. IsListPlatform p.board.now p.files.items p.done.items p.claimed };
 }
@@ -66,14 +79,15 @@ impl<'a> ListPlatform<'a> {
         }
     }
 
-    // Whether the folder takes no file of a name.
-    fn is_full(&self, name: &Text) -> bool
-        ensures value { result ≡ is_folder_full self.now name.now }
-        ensures serial { result ≡ false → self.now.last_file < 2 ^ 64 - 1 }
+    // Whether the folder does not take a file.
+    fn is_full(&self, name: &Text, bytes: &[u8]) -> bool
+        ensures value { result ≡ is_folder_full self.now name.now bytes.now }
+        ensures bound { result ≡ false → self.now.last_file < 2 ^ 64 - 1 }
     {
         let is_known = has_file(&self.files, name.as_str());
         let is_crowded = self.files.len() >= MAX_FILES;
-        is_crowded && !is_known || self.last_file == u64::MAX
+        let sum = bytes_beside(&self.files, name.as_str()).saturating_add(bytes.len());
+        is_crowded && !is_known || (sum > MAX_FOLDER_BYTES || self.last_file == u64::MAX)
     }
 
     /// Puts a thin file that has a target into the folder.
@@ -84,11 +98,13 @@ impl<'a> ListPlatform<'a> {
         bytes: &'a [u8],
     ) -> Result<Entry, NoMemory>
         requires { IsTrue (is_thin_on self.old.board bytes.now) }
-        ensures ok { IfOk result (λ entry. (entry_value entry, self.new) ≡ outcome thin self.old (Drop name.now bytes.now)) }
-        ensures board { self.new.board ≡ self.old.board }
-        ensures batches { self.new.batches ≡ self.old.batches }
+        ensures ok { IfOk result
+            (λ entry. (entry_value entry, self.new)
+            ≡ outcome thin self.old (Drop name.now bytes.now)) }
+        ensures frame { self.new.board ≡ self.old.board }
+        ensures counts { self.new.batches ≡ self.old.batches }
     {
-        if self.is_full(name) {
+        if self.is_full(name, bytes) {
             return Ok(plain_entry(Answer::Full));
         }
         let file = StoredFile {
@@ -105,8 +121,8 @@ impl<'a> ListPlatform<'a> {
     pub fn signal(&mut self) -> Entry
         requires { self.old.batches ≤ 2 ^ 63 }
         ensures value { (entry_value result, self.new) ≡ outcome thin self.old Signal }
-        ensures board { self.new.board ≡ self.old.board }
-        ensures batches { self.new.batches ≤ self.old.batches + 1 }
+        ensures frame { self.new.board ≡ self.old.board }
+        ensures counts { self.new.batches ≤ self.old.batches + 1 }
     {
         let opened = Some(self.batches);
         self.asked = true;
@@ -132,8 +148,13 @@ fn plain_entry(answer: Answer) -> Entry
 
 // Puts a file into the folder in place of those of the same name.
 fn put<'a>(files: &mut Vec<StoredFile<'a>>, file: StoredFile<'a>) -> Result<(), NoMemory>
-    ensures ok { OnOk result (files.new.items ≡ filter (λ x. not (is_same_name x.name file.entry.name)) files.old.items ++ file.entry ∷ []) }
-    ensures err { OnErr result (files.new.items ≡ filter (λ x. not (is_same_name x.name file.entry.name)) files.old.items) }
+    ensures ok { OnOk result
+        (files.new.items
+        ≡ filter (λ x. not (is_same_name x.name file.entry.name)) files.old.items
+        ++ file.entry ∷ []) }
+    ensures err { OnErr result
+        (files.new.items
+        ≡ filter (λ x. not (is_same_name x.name file.entry.name)) files.old.items) }
 {
     forget(files, &file.name);
     match files.push(file) {

@@ -15,8 +15,8 @@ use cu_base::{NoMemory, Text};
 use cu_io::Loaded;
 use std::alloc::Global;
 
-/// Plays a script on a board of one device: one entry is appended for each event, in order. After want of
-/// memory the entries of a front of the script were appended.
+/// Plays a script on a board of one device: one entry is appended for each event, in order. After
+/// want of memory the entries of a front of the script were appended.
 pub fn play(
     alloc: Global,
     board: &Board,
@@ -27,9 +27,15 @@ pub fn play(
     requires one { IsTrue (has_one_device board.now) }
     requires short { length script.now.items ≤ MAX_EVENTS }
     requires events { IsTrue (list_all (can_play board.now loaded.now.items) script.now.items) }
-    ensures ok { OnOk result (map entry_value trace.new.items ≡ map entry_value trace.old.items ++ thin_trace board.now loaded.now.items script.now.items) }
-    ensures err { OnErr result ((n : ℕ) × (map entry_value trace.new.items ≡ map entry_value trace.old.items ++ take n (thin_trace board.now loaded.now.items script.now.items))) }
-    ensures long { length trace.new.items ≤ length trace.old.items + length script.now.items }
+    ensures ok { OnOk result
+        (map entry_value trace.new.items
+        ≡ map entry_value trace.old.items
+        ++ thin_trace board.now loaded.now.items script.now.items) }
+    ensures err { OnErr result
+        ((n : ℕ) × (map entry_value trace.new.items
+        ≡ map entry_value trace.old.items
+        ++ take n (thin_trace board.now loaded.now.items script.now.items))) }
+    ensures size { length trace.new.items ≤ length trace.old.items + length script.now.items }
 {
     let mut platform = ListPlatform::new(alloc, board);
     run_events(&mut platform, alloc, script.as_slice(), loaded, trace)?;
@@ -47,10 +53,17 @@ pub fn run_events<'a>(
     requires short { length events.now ≤ MAX_EVENTS }
     requires batches { platform.old.batches ≤ 2 ^ 58 }
     requires events { IsTrue (list_all (can_play platform.old.board loaded.now.items) events.now) }
-    ensures ok { OnOk result (map entry_value trace.new.items ≡ map entry_value trace.old.items ++ trace_of thin platform.old (acts_of loaded.now.items events.now)) }
-    ensures after { OnOk result (platform.new ≡ machine_after thin platform.old (acts_of loaded.now.items events.now)) }
-    ensures err { OnErr result ((n : ℕ) × (map entry_value trace.new.items ≡ map entry_value trace.old.items ++ take n (trace_of thin platform.old (acts_of loaded.now.items events.now)))) }
-    ensures long { length trace.new.items ≤ length trace.old.items + length events.now }
+    ensures ok { OnOk result
+        (map entry_value trace.new.items
+        ≡ map entry_value trace.old.items
+        ++ trace_of thin platform.old (acts_of loaded.now.items events.now)) }
+    ensures value { OnOk result
+        (platform.new ≡ machine_after thin platform.old (acts_of loaded.now.items events.now)) }
+    ensures err { OnErr result
+        ((n : ℕ) × (map entry_value trace.new.items
+        ≡ map entry_value trace.old.items
+        ++ take n (trace_of thin platform.old (acts_of loaded.now.items events.now)))) }
+    ensures size { length trace.new.items ≤ length trace.old.items + length events.now }
 {
     for event in events {
         let entry = answer_of(platform, alloc, event, loaded)?;
@@ -68,9 +81,11 @@ fn answer_of<'a>(
 ) -> Result<Entry, NoMemory>
     requires batches { platform.old.batches ≤ 2 ^ 59 }
     requires played { IsTrue (can_play platform.old.board loaded.now.items event.now) }
-    ensures ok { IfOk result (λ entry. (entry_value entry, platform.new) ≡ outcome thin platform.old (act_of (loaded_bytes loaded.now.items) event.now)) }
-    ensures board { platform.new.board ≡ platform.old.board }
-    ensures batches { OnOk result (platform.new.batches ≤ platform.old.batches + 100) }
+    ensures ok { IfOk result
+        (λ entry. (entry_value entry, platform.new)
+        ≡ outcome thin platform.old (act_of (loaded_bytes loaded.now.items) event.now)) }
+    ensures frame { platform.new.board ≡ platform.old.board }
+    ensures counts { OnOk result (platform.new.batches ≤ platform.old.batches + 200) }
 {
     match event {
         Event::Drop { file, input } => drop_input(platform, alloc, file, input, loaded),
@@ -89,9 +104,11 @@ fn drop_input<'a>(
     loaded: &'a Loaded,
 ) -> Result<Entry, NoMemory>
     requires { IsTrue (is_thin_on platform.old.board (loaded_bytes loaded.now.items input.now)) }
-    ensures ok { IfOk result (λ entry. (entry_value entry, platform.new) ≡ outcome thin platform.old (Drop file.now (loaded_bytes loaded.now.items input.now))) }
-    ensures board { platform.new.board ≡ platform.old.board }
-    ensures batches { platform.new.batches ≡ platform.old.batches }
+    ensures ok { IfOk result
+        (λ entry. (entry_value entry, platform.new)
+        ≡ outcome thin platform.old (Drop file.now (loaded_bytes loaded.now.items input.now))) }
+    ensures frame { platform.new.board ≡ platform.old.board }
+    ensures counts { platform.new.batches ≡ platform.old.batches }
 {
     match loaded.get(input.as_str()) {
         Some(bytes) => platform.drop_file(alloc, file, bytes),
@@ -102,9 +119,10 @@ fn drop_input<'a>(
 // What a boot tells.
 fn boot_answer(platform: &mut ListPlatform<'_>, alloc: Global) -> Result<Entry, NoMemory>
     requires { platform.old.batches ≤ 2 ^ 59 }
-    ensures ok { IfOk result (λ entry. (entry_value entry, platform.new) ≡ outcome thin platform.old Boot) }
-    ensures board { platform.new.board ≡ platform.old.board }
-    ensures batches { OnOk result (platform.new.batches ≤ platform.old.batches + 100) }
+    ensures ok { IfOk result
+        (λ entry. (entry_value entry, platform.new) ≡ outcome thin platform.old Boot) }
+    ensures frame { platform.new.board ≡ platform.old.board }
+    ensures counts { OnOk result (platform.new.batches ≤ platform.old.batches + 200) }
 {
     let report = platform.boot(alloc)?;
     Ok(Entry {

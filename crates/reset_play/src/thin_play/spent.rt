@@ -43,7 +43,8 @@ impl<'a> Model for SpentTry<'a> {
 
     ghost Value = { Element };
 
-    ghost view = { λ s. attempt_of s.key (thin_head s.type_id s.index s.instance) s.version s.floor s.payload.now s.standing };
+    ghost view = { λ s. attempt_of s.key
+        (thin_head s.type_id s.index s.instance) s.version s.floor s.payload.now s.standing };
 }
 
 /// Attempts in order.
@@ -90,7 +91,9 @@ pub fn first_device(board: &Board) -> &Device
 
 // The floor in force behind one more attempt.
 fn floor_behind(floor: u32, attempt: &SpentTry<'_>) -> u32
-    ensures { result ≡ (if is_on 0 attempt.now && is_sealed attempt.now then max floor (attempt.now).floor else floor) }
+    ensures { result
+        ≡ (if is_on 0 attempt.now && is_sealed attempt.now then max floor (attempt.now).floor
+        else floor) }
 {
     if is_sealed_on_first(attempt) {
         floor.max(attempt.floor)

@@ -40,7 +40,8 @@ fn refusal_of_parts(
     parts: &PlainParts<'_>,
 ) -> Option<u32>
     ensures { (m : Machine) (u : BootUnit) → m.board ≡ board.now → m.list ≡ list.now →
-        u.image ≡ image.now → u.key.device ≡ 0 → result ≡ refusal_with thin m u (Some (parts_of parts.now)) }
+        u.image ≡ image.now → u.key.device ≡ 0
+        → result ≡ refusal_with thin m u (Some (parts_of parts.now)) }
 {
     if !is_admitted(board, image) {
         return Some(LAST_ATTEMPT_STATUS_ERROR_AUTH_ERROR);
@@ -54,8 +55,8 @@ fn refusal_of_parts(
     None
 }
 
-/// The status of the first check that an image fails on the first device, in the order of the checks of
-/// an attempt. None where it passes all.
+/// The status of the first check that an image fails on the first device, in the order of the
+/// checks of an attempt. None where it passes all.
 pub fn refusal(board: &Board, list: &[SpentTry<'_>], image: &[u8]) -> Option<u32>
     ensures { (m : Machine) (u : BootUnit) → m.board ≡ board.now → m.list ≡ list.now →
         u.image ≡ image.now → u.key.device ≡ 0 → u.head.support ≡ 0 → result ≡ refusal thin m u }

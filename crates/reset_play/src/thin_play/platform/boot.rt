@@ -17,10 +17,15 @@ impl<'a> ListPlatform<'a> {
     fn heal(&mut self, alloc: Global, report: &mut Report) -> Result<(), NoMemory>
         requires batches { self.old.batches ≤ 2 ^ 62 }
         requires steps { report.old.steps ≤ 2 ^ 30 }
-        ensures ok { OnOk result (between_tasks self.new report.new ≡ tasks_done thin (between_tasks self.old report.old) (heal_tasks (find is_open self.old.list))) }
-        ensures rests { OnOk result (find is_open self.new.list ≡ None) }
-        ensures board { self.new.board ≡ self.old.board }
-        ensures counts { OnOk result ((self.new.batches ≤ self.old.batches + 1) × (report.new.steps ≤ report.old.steps + 1)) }
+        ensures ok { OnOk result
+            (between_tasks self.new report.new
+            ≡ tasks_done thin (between_tasks self.old report.old)
+            (heal_tasks (find is_open self.old.list))) }
+        ensures rule { OnOk result (find is_open self.new.list ≡ None) }
+        ensures frame { self.new.board ≡ self.old.board }
+        ensures counts { OnOk result
+            ((self.new.batches ≤ self.old.batches + 1)
+            × (report.new.steps ≤ report.old.steps + 1)) }
     {
         if self.claimed.is_none() {
             return Ok(());
@@ -29,13 +34,14 @@ impl<'a> ListPlatform<'a> {
         Ok(())
     }
 
-    /// Boots the platform. An attempt that an earlier boot left open is settled by what the device holds,
-    /// which is its image.
+    /// Boots the platform. An attempt that an earlier boot left open is settled by what the device
+    /// holds, which is its image.
     pub fn boot(&mut self, alloc: Global) -> Result<Report, NoMemory>
         requires { self.old.batches ≤ 2 ^ 59 }
-        ensures ok { IfOk result (λ report. between_tasks self.new report ≡ boot_of thin self.old Sealed) }
-        ensures board { self.new.board ≡ self.old.board }
-        ensures batches { OnOk result (self.new.batches ≤ self.old.batches + 67) }
+        ensures ok { IfOk result
+            (λ report. between_tasks self.new report ≡ boot_of thin self.old Sealed) }
+        ensures frame { self.new.board ≡ self.old.board }
+        ensures counts { OnOk result (self.new.batches ≤ self.old.batches + 131) }
     {
         let mut report = Report::new(alloc);
         report.opened = Some(self.batches);

@@ -69,10 +69,14 @@ impl<'a> ListPlatform<'a> {
         requires rests { find is_open self.old.list ≡ None }
         requires batches { self.old.batches ≤ 2 ^ 62 }
         requires steps { report.old.steps ≤ 2 ^ 30 }
-        ensures ok { OnOk result (between_tasks self.new report.new ≡ task_done thin (between_tasks self.old report.old) (Does (file_unit file.now))) }
-        ensures rests { OnOk result (find is_open self.new.list ≡ None) }
-        ensures board { self.new.board ≡ self.old.board }
-        ensures counts { OnOk result ((self.new.batches ≤ self.old.batches + 2) × (report.new.steps ≤ report.old.steps + 2)) }
+        ensures ok { OnOk result
+            (between_tasks self.new report.new
+            ≡ task_done thin (between_tasks self.old report.old) (Does (file_unit file.now))) }
+        ensures rule { OnOk result (find is_open self.new.list ≡ None) }
+        ensures frame { self.new.board ≡ self.old.board }
+        ensures counts { OnOk result
+            ((self.new.batches ≤ self.old.batches + 2)
+            × (report.new.steps ≤ report.old.steps + 2)) }
     {
         let item = item_in(file.bytes);
         let mut attempt = attempt_of(alloc, file, &item)?;
@@ -102,10 +106,15 @@ impl<'a> ListPlatform<'a> {
         requires rests { find is_open self.old.list ≡ None }
         requires batches { self.old.batches ≤ 2 ^ 62 }
         requires steps { report.old.steps ≤ 2 ^ 30 }
-        ensures ok { OnOk result (between_tasks self.new report.new ≡ tasks_done thin (between_tasks self.old report.old) (if is_spent then [] else Does (file_unit file.now) ∷ [])) }
-        ensures rests { OnOk result (find is_open self.new.list ≡ None) }
-        ensures board { self.new.board ≡ self.old.board }
-        ensures counts { OnOk result ((self.new.batches ≤ self.old.batches + 2) × (report.new.steps ≤ report.old.steps + 2)) }
+        ensures ok { OnOk result
+            (between_tasks self.new report.new
+            ≡ tasks_done thin (between_tasks self.old report.old)
+            (if is_spent then [] else Does (file_unit file.now) ∷ [])) }
+        ensures rule { OnOk result (find is_open self.new.list ≡ None) }
+        ensures frame { self.new.board ≡ self.old.board }
+        ensures counts { OnOk result
+            ((self.new.batches ≤ self.old.batches + 2)
+            × (report.new.steps ≤ report.old.steps + 2)) }
     {
         if is_spent {
             return Ok(());
@@ -126,10 +135,15 @@ impl<'a> ListPlatform<'a> {
         requires rests { find is_open self.old.list ≡ None }
         requires batches { self.old.batches ≤ 2 ^ 62 }
         requires steps { report.old.steps ≤ 2 ^ 30 }
-        ensures ok { OnOk result (between_tasks self.new report.new ≡ tasks_done thin (between_tasks self.old report.old) (marked_tasks file.now is_spent)) }
-        ensures rests { OnOk result (find is_open self.new.list ≡ None) }
-        ensures board { self.new.board ≡ self.old.board }
-        ensures counts { OnOk result ((self.new.batches ≤ self.old.batches + 2) × (report.new.steps ≤ report.old.steps + 3)) }
+        ensures ok { OnOk result
+            (between_tasks self.new report.new
+            ≡ tasks_done thin (between_tasks self.old report.old)
+            (marked_tasks file.now is_spent)) }
+        ensures rule { OnOk result (find is_open self.new.list ≡ None) }
+        ensures frame { self.new.board ≡ self.old.board }
+        ensures counts { OnOk result
+            ((self.new.batches ≤ self.old.batches + 2)
+            × (report.new.steps ≤ report.old.steps + 3)) }
     {
         self.try_unspent(alloc, file, is_spent, report)?;
         self.remove(file.serial, report)?;
@@ -150,9 +164,14 @@ impl<'a> ListPlatform<'a> {
         requires rests { find is_open self.old.list ≡ None }
         requires batches { self.old.batches ≤ 2 ^ 61 }
         requires steps { report.old.steps ≤ 2 ^ 29 }
-        ensures ok { OnOk result (between_tasks self.new report.new ≡ tasks_done thin (between_tasks self.old report.old) (all_marked_tasks files.now marks.now)) }
-        ensures board { self.new.board ≡ self.old.board }
-        ensures counts { OnOk result ((self.new.batches ≤ self.old.batches + 64) × (report.new.steps ≤ report.old.steps + 96)) }
+        ensures ok { OnOk result
+            (between_tasks self.new report.new
+            ≡ tasks_done thin (between_tasks self.old report.old)
+            (all_marked_tasks files.now marks.now)) }
+        ensures frame { self.new.board ≡ self.old.board }
+        ensures counts { OnOk result
+            ((self.new.batches ≤ self.old.batches + 128)
+            × (report.new.steps ≤ report.old.steps + 192)) }
     {
         for (i, file) in files.iter().enumerate() {
             self.do_file(alloc, file, marks[i], report)?;
@@ -164,10 +183,13 @@ impl<'a> ListPlatform<'a> {
     fn prune(&mut self, alloc: Global, report: &mut Report) -> Result<(), NoMemory>
         requires batches { self.old.batches ≤ 2 ^ 62 }
         requires steps { report.old.steps ≤ 2 ^ 30 }
-        ensures ok { OnOk result (between_tasks self.new report.new ≡ tasks_done thin (between_tasks self.old report.old) (prune_tasks self.old)) }
-        ensures list { self.new.list ≡ self.old.list }
-        ensures board { self.new.board ≡ self.old.board }
-        ensures counts { OnOk result ((self.new.batches ≤ self.old.batches + 1) × (report.new.steps ≤ report.old.steps + 1)) }
+        ensures ok { OnOk result
+            (between_tasks self.new report.new
+            ≡ tasks_done thin (between_tasks self.old report.old) (prune_tasks self.old)) }
+        ensures frame { (self.new.list ≡ self.old.list) × (self.new.board ≡ self.old.board) }
+        ensures counts { OnOk result
+            ((self.new.batches ≤ self.old.batches + 1)
+            × (report.new.steps ≤ report.old.steps + 1)) }
     {
         if !lacks_a_file(&self.files, self.in_progress.as_slice()) {
             return Ok(());
@@ -183,9 +205,11 @@ impl<'a> ListPlatform<'a> {
         requires rests { find is_open self.old.list ≡ None }
         requires batches { self.old.batches ≤ 2 ^ 60 }
         requires steps { report.old.steps ≤ 2 ^ 28 }
-        ensures ok { OnOk result (between_tasks self.new report.new ≡ tasks_done thin (between_tasks self.old report.old) (folder_tasks thin self.old)) }
-        ensures board { self.new.board ≡ self.old.board }
-        ensures batches { OnOk result (self.new.batches ≤ self.old.batches + 66) }
+        ensures ok { OnOk result
+            (between_tasks self.new report.new
+            ≡ tasks_done thin (between_tasks self.old report.old) (folder_tasks thin self.old)) }
+        ensures frame { self.new.board ≡ self.old.board }
+        ensures counts { OnOk result (self.new.batches ≤ self.old.batches + 130) }
     {
         if !self.asked {
             return Ok(());

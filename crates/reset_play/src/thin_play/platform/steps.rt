@@ -56,10 +56,19 @@ impl<'a> ListPlatform<'a> {
         requires rests { find is_open self.old.list ≡ None }
         requires batches { self.old.batches ≤ 2 ^ 63 }
         requires steps { report.old.steps ≤ 2 ^ 31 }
-        ensures ok { OnOk result (between_tasks self.new report.new ≡ record { machine = with_element self.old attempt.entry; left = []; report = with_lines (report_value report.old) (next_line self.old Try attempt.entry ∷ []) }) }
-        ensures rests { OnOk result (find is_open self.new.list ≡ None) }
-        ensures board { self.new.board ≡ self.old.board }
-        ensures counts { OnOk result ((self.new.batches ≡ self.old.batches + 1) × (report.new.steps ≡ report.old.steps + 1)) }
+        ensures ok { OnOk result
+            (between_tasks self.new report.new
+            ≡ record {
+              machine = with_element self.old attempt.entry;
+              left = [];
+              report = with_lines (report_value report.old)
+                  (next_line self.old Try attempt.entry ∷ []);
+            }) }
+        ensures rule { OnOk result (find is_open self.new.list ≡ None) }
+        ensures frame { self.new.board ≡ self.old.board }
+        ensures counts { OnOk result
+            ((self.new.batches ≡ self.old.batches + 1)
+            × (report.new.steps ≡ report.old.steps + 1)) }
     {
         let line = line_of(alloc, self.board, Kind::Try, self.done.len(), &attempt)?;
         report.lines.push(line)?;
@@ -76,10 +85,16 @@ impl<'a> ListPlatform<'a> {
         requires rests { find is_open self.old.list ≡ None }
         requires batches { self.old.batches ≤ 2 ^ 63 }
         requires steps { report.old.steps ≤ 2 ^ 31 }
-        ensures value { between_tasks self.new report.new ≡ record { machine = with_claim self.old attempt.entry; left = []; report = one_step (report_value report.old) } }
-        ensures pends { IsSome (find is_open self.new.list) }
-        ensures board { self.new.board ≡ self.old.board }
-        ensures counts { (self.new.batches ≡ self.old.batches + 1) × (report.new.steps ≡ report.old.steps + 1) }
+        ensures value { between_tasks self.new report.new
+            ≡ record {
+              machine = with_claim self.old attempt.entry;
+              left = [];
+              report = one_step (report_value report.old);
+            } }
+        ensures rule { IsSome (find is_open self.new.list) }
+        ensures frame { self.new.board ≡ self.old.board }
+        ensures counts { (self.new.batches ≡ self.old.batches + 1)
+            × (report.new.steps ≡ report.old.steps + 1) }
     {
         self.claimed = Some(attempt);
         self.batches += 1;
@@ -96,10 +111,14 @@ impl<'a> ListPlatform<'a> {
         requires pends { IsSome (find is_open self.old.list) }
         requires batches { self.old.batches ≤ 2 ^ 63 }
         requires steps { report.old.steps ≤ 2 ^ 31 }
-        ensures ok { OnOk result (between_tasks self.new report.new ≡ task_done thin (between_tasks self.old report.old) (Settles kind Sealed)) }
-        ensures rests { OnOk result (find is_open self.new.list ≡ None) }
-        ensures board { self.new.board ≡ self.old.board }
-        ensures counts { OnOk result ((self.new.batches ≡ self.old.batches + 1) × (report.new.steps ≡ report.old.steps + 1)) }
+        ensures ok { OnOk result
+            (between_tasks self.new report.new
+            ≡ task_done thin (between_tasks self.old report.old) (Settles kind Sealed)) }
+        ensures rule { OnOk result (find is_open self.new.list ≡ None) }
+        ensures frame { self.new.board ≡ self.old.board }
+        ensures counts { OnOk result
+            ((self.new.batches ≡ self.old.batches + 1)
+            × (report.new.steps ≡ report.old.steps + 1)) }
     {
         let mut attempt = match self.claimed.take() {
             Some(attempt) => attempt,
@@ -118,10 +137,12 @@ impl<'a> ListPlatform<'a> {
     // A file is taken out of the folder.
     pub(super) fn remove(&mut self, serial: u64, report: &mut Report) -> Result<(), NoMemory>
         requires steps { report.old.steps ≤ 2 ^ 31 }
-        ensures ok { OnOk result (between_tasks self.new report.new ≡ task_done thin (between_tasks self.old report.old) (Removes serial)) }
-        ensures list { self.new.list ≡ self.old.list }
-        ensures board { self.new.board ≡ self.old.board }
-        ensures counts { OnOk result ((self.new.batches ≡ self.old.batches) × (report.new.steps ≡ report.old.steps + 1)) }
+        ensures ok { OnOk result
+            (between_tasks self.new report.new
+            ≡ task_done thin (between_tasks self.old report.old) (Removes serial)) }
+        ensures frame { (self.new.list ≡ self.old.list) × (self.new.board ≡ self.old.board) }
+        ensures counts { OnOk result
+            ((self.new.batches ≡ self.old.batches) × (report.new.steps ≡ report.old.steps + 1)) }
     {
         report.removed.push(serial)?;
         take_out(&mut self.files, serial);
@@ -133,9 +154,11 @@ impl<'a> ListPlatform<'a> {
     pub(super) fn clear(&mut self, alloc: Global, report: &mut Report)
         requires batches { self.old.batches ≤ 2 ^ 63 }
         requires steps { report.old.steps ≤ 2 ^ 31 }
-        ensures value { between_tasks self.new report.new ≡ task_done thin (between_tasks self.old report.old) Clears }
-        ensures board { self.new.board ≡ self.old.board }
-        ensures counts { (self.new.batches ≡ self.old.batches + 1) × (report.new.steps ≡ report.old.steps + 1) }
+        ensures value { between_tasks self.new report.new
+            ≡ task_done thin (between_tasks self.old report.old) Clears }
+        ensures frame { self.new.board ≡ self.old.board }
+        ensures counts { (self.new.batches ≡ self.old.batches + 1)
+            × (report.new.steps ≡ report.old.steps + 1) }
     {
         self.asked = false;
         self.in_progress = Serials::new(alloc);

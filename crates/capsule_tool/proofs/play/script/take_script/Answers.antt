@@ -20,5 +20,5 @@ returns-in-Ok-Ends-clause-found g c = λ board. ends_with _ _ _ _ (λ bytes. scr
 
 pub script_of-requires : goal.script_of-requires
 script_of-requires g c =
-    let short : length c.in-Ok-Goes.bytes ≤ MAX_TEXT_BYTES = goes_short MAX_TEXT_BYTES _ _ c.in-Ok-Goes.field-0-is c.in-Ok-Goes.ensures.short in
+    let short : length c.in-Ok-Goes.bytes ≤ MAX_TEXT_BYTES = goes_short MAX_TEXT_BYTES _ _ c.in-Ok-Goes.field-0-is c.in-Ok-Goes.ensures.bound in
     omega (arith, short)

@@ -6,7 +6,8 @@ use Rattle.reset_play.proofs.script.inputs.script_inputs.Goals as goal
 pub loop-event-init : goal.loop-event-init
 loop-event-init c = record {
   items = c.as_slice-event-items.ensures;
-  named = named_none c.new-names.result.items c.as_slice-event-items.result.now c.new-names.ensures ∙ ap inputs_of c.as_slice-event-items.ensures;
+  named = named_none c.new-names.result.items c.as_slice-event-items.result.now c.new-names.ensures
+      ∙ ap inputs_of c.as_slice-event-items.ensures;
 }
 
 pub loop-event-preserved : goal.loop-event-preserved

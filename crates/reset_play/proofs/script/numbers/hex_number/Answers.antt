@@ -11,4 +11,9 @@ overflow_add-number c = omega (arith, sixteen_fit c.loop-digit.digit-index (omeg
 
 pub returns-clause-bound : goal.returns-clause-bound
 returns-clause-bound c =
-    omega (arith, c.loop-digit.invariant.fits, pow-le-pow_right {n = 16} (lit< tt) {i = c.loop-digit.digit-index} {j = c.args.most} (omega arith))
+    omega (
+      arith,
+      c.loop-digit.invariant.fits,
+      pow-le-pow_right {n = 16} (lit< tt) {i = c.loop-digit.digit-index} {j = c.args.most}
+          (omega arith),
+    )

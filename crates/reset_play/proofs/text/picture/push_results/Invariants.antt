@@ -4,4 +4,6 @@ use Rattle.reset_play.proofs.text.picture.push_results.Given as goal
 
 -- what was written, and the text of what is left, are the whole text
 abbrev pub invariant-loop-result : goal.invariant-loop-result
-invariant-loop-result l = l.out ++ flat_map result_text (drop l.result-index l.results) ≡ l.fn.out ++ flat_map result_text l.results
+invariant-loop-result l =
+    l.out ++ flat_map result_text (drop l.result-index l.results)
+    ≡ l.fn.out ++ flat_map result_text l.results

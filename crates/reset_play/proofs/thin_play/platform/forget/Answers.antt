@@ -5,4 +5,5 @@ use Rattle.reference_machine.specs.Names.{is_same_name}
 use Rattle.reset_play.proofs.thin_play.platform.forget.Goals as goal
 
 pub returns : goal.returns
-returns c = filter_same _ (λ (x : File). not (is_same_name x.name c.args.name.now)) _ (λ x b f' t. search rules) _ _ c.retain.ensures.filtered
+returns c = filter_same _ (λ (x : File). not (is_same_name x.name c.args.name.now)) _
+    (λ x b f' t. search rules) _ _ c.retain.ensures.filtered

@@ -8,10 +8,14 @@ use Rattle.reset_play.proofs.thin_play.running.run_events.Given as goal
 -- what was told is a front of the whole trace, and the other events tell the rest of it
 abbrev pub invariant-loop-event : goal.invariant-loop-event
 invariant-loop-event l = record {
-  said : map entry_value l.trace.items ≡ map entry_value l.initial.trace.items ++ take l.event-index (trace_of thin l.initial.platform (acts_of l.loaded.items l.events));
-  rest : trace_of thin l.platform (acts_of l.loaded.items (drop l.event-index l.events)) ≡ drop l.event-index (trace_of thin l.initial.platform (acts_of l.loaded.items l.events));
-  after : machine_after thin l.platform (acts_of l.loaded.items (drop l.event-index l.events)) ≡ machine_after thin l.initial.platform (acts_of l.loaded.items l.events);
+  said : map entry_value l.trace.items
+      ≡ map entry_value l.initial.trace.items
+      ++ take l.event-index (trace_of thin l.initial.platform (acts_of l.loaded.items l.events));
+  rest : trace_of thin l.platform (acts_of l.loaded.items (drop l.event-index l.events))
+      ≡ drop l.event-index (trace_of thin l.initial.platform (acts_of l.loaded.items l.events));
+  after : machine_after thin l.platform (acts_of l.loaded.items (drop l.event-index l.events))
+      ≡ machine_after thin l.initial.platform (acts_of l.loaded.items l.events);
   board : l.platform.board ≡ l.initial.platform.board;
-  batches : l.platform.batches ≤ l.initial.platform.batches + 100 * l.event-index;
+  batches : l.platform.batches ≤ l.initial.platform.batches + 200 * l.event-index;
   long : length l.trace.items ≤ length l.initial.trace.items + l.event-index;
 }

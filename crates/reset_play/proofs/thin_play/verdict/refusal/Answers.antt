@@ -5,7 +5,9 @@ use Rattle.reset_play.proofs.thin_play.verdict.refusal.Goals as goal
 
 pub returns-in-Some : goal.returns-in-Some
 returns-in-Some c = λ m u eb el ei ed es.
-    c.refusal_of_parts.ensures m u eb el ei ed ∙ parts_read c.args.image.now m u (Some (parts_of c.in-Some.parts)) ei (c.in-Some.ensures 0)
+    c.refusal_of_parts.ensures m u eb el ei ed
+    ∙ parts_read c.args.image.now m u (Some (parts_of c.in-Some.parts)) ei (c.in-Some.ensures 0)
 
 pub returns-in-None : goal.returns-in-None
-returns-in-None c = λ m u eb el ei ed es. parts_read c.args.image.now m u None ei (c.in-None.ensures 0)
+returns-in-None c =
+    λ m u eb el ei ed es. parts_read c.args.image.now m u None ei (c.in-None.ensures 0)

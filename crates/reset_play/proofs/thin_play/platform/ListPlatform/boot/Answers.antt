@@ -13,8 +13,16 @@ use Rattle.reset_play.proofs.thin_play.platform.ListPlatform.boot.Goals as goal
 pub returns-clause-ok : goal.returns-clause-ok
 returns-clause-ok c =
     let none : c.args.self.now.staged ≡ [] = ap (λ (m : Machine). m.staged) (sym c.self.view_is) in
-    let healed : between_tasks c.heal.new.self c.heal.new.report ≡ tasks_done thin (progress c.args.self.now [] (boot_start thin c.args.self.now Sealed).report) (heal_tasks (find is_open c.args.self.now.list)) =
+    let healed : between_tasks c.heal.new.self c.heal.new.report
+    ≡ tasks_done thin
+    (progress c.args.self.now [] (boot_start thin c.args.self.now Sealed).report)
+    (heal_tasks (find is_open c.args.self.now.list)) =
     c.in_ok-heal.ensures.ok
-    ∙ ap (λ (r : ReportValue). tasks_done thin (progress c.args.self.now [] (record r { opened = Some c.self.inside.batches })) (heal_tasks (find is_open c.args.self.now.list))) c.new-report.ensures
-    ∙ ap (λ (m : Machine). tasks_done thin (progress c.args.self.now [] (record nothing_done { opened = Some m.batches })) (heal_tasks (find is_open c.args.self.now.list))) c.self.view_is in
-    c.in_ok-take_folder.ensures.ok ∙ boot_parts c.args.self.now none (between_tasks c.heal.new.self c.heal.new.report) healed
+    ∙ ap (λ (r : ReportValue). tasks_done thin
+    (progress c.args.self.now [] (record r { opened = Some c.self.inside.batches }))
+    (heal_tasks (find is_open c.args.self.now.list))) c.new-report.ensures
+    ∙ ap (λ (m : Machine). tasks_done thin
+    (progress c.args.self.now [] (record nothing_done { opened = Some m.batches }))
+    (heal_tasks (find is_open c.args.self.now.list))) c.self.view_is in
+    c.in_ok-take_folder.ensures.ok
+    ∙ boot_parts c.args.self.now none (between_tasks c.heal.new.self c.heal.new.report) healed

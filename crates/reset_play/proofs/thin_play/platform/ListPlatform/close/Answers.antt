@@ -10,23 +10,48 @@ use Rattle.reset_play.proofs.thin_play.platform.ListPlatform.close.Goals as goal
 
 pub returns-clause-ok : goal.returns-clause-ok
 returns-clause-ok c =
-    let rests : find is_open (c.self.inside.done.items ++ open_rest c.self.inside.claimed) ≡ None = subst (λ m. find is_open m.list ≡ None) (sym c.self.view_is) c.requires.rests in
-    let none : c.self.inside.claimed ≡ None = none_held c.self.inside.done.items c.self.inside.claimed c.self.invariant.closed_before c.self.invariant.open_last rests in
-    let count : count_by is_closed (c.self.inside.done.items ++ open_rest c.self.inside.claimed) ≡ length c.self.inside.done.items = count_held c.self.inside.done.items c.self.inside.claimed c.self.invariant.closed_before c.self.invariant.open_last in
-    let more : (c.self.inside.done.items ++ open_rest c.self.inside.claimed) ++ c.args.attempt ∷ [] ≡ c.self.inside.done.items ++ c.args.attempt ∷ [] = held_more c.self.inside.done.items c.self.inside.claimed c.args.attempt none in
-    let task_done : c.push-2.new.self.items ++ open_rest c.self.inside.claimed ≡ c.push-2.new.self.items = held_none c.push-2.new.self.items c.self.inside.claimed none in
-    let pushed : c.push-2.new.self.items ≡ c.self.inside.done.items ++ c.args.attempt ∷ [] = search rules in
-    let list : c.push-2.new.self.items ++ open_rest c.self.inside.claimed ≡ (c.self.inside.done.items ++ open_rest c.self.inside.claimed) ++ c.args.attempt ∷ [] = task_done ∙ pushed ∙ sym more in
-    let in_progress : c.keep.new.in_progress.items ≡ progress_with c.self.inside.in_progress.items c.args.attempt.key = search rules in
-    let line : c.in_ok-line.line ≡ line_of c.self.inside.board.now Try (length c.self.inside.done.items) c.args.attempt = search rules in
-    let lines : c.push.new.self.items ≡ c.args.report.now.lines.items ++ c.in_ok-line.line ∷ [] = search rules in
-    let told : c.push.new.self.items ≡ c.args.report.now.lines.items ++ line_of c.self.inside.board.now Try (count_by is_closed (c.self.inside.done.items ++ open_rest c.self.inside.claimed)) c.args.attempt ∷ [] =
-    lines ∙ ap (λ l. c.args.report.now.lines.items ++ l ∷ []) (line ∙ ap (λ k. line_of c.self.inside.board.now Try k c.args.attempt) (sym count)) in
-    rw (← c.self.view_is) (built_same c.self.inside.board.now c.self.inside.files.items c.self.inside.last_file c.self.inside.asked _ _ _ _ (c.self.inside.batches + 1) c.args.report.now.opened (c.args.report.now.steps + 1) _ _ c.args.report.now.unstaged.items c.args.report.now.removed.items c.args.report.now.pending list in_progress told)
+    let rests : find is_open (c.self.inside.done.items ++ open_rest c.self.inside.claimed) ≡ None =
+    subst (λ m. find is_open m.list ≡ None) (sym c.self.view_is) c.requires.rests in
+    let none : c.self.inside.claimed ≡ None =
+    none_held c.self.inside.done.items c.self.inside.claimed c.self.invariant.closed_before c.self.invariant.open_last rests in
+    let count : count_by is_closed (c.self.inside.done.items ++ open_rest c.self.inside.claimed)
+    ≡ length c.self.inside.done.items =
+    count_held c.self.inside.done.items c.self.inside.claimed c.self.invariant.closed_before c.self.invariant.open_last in
+    let more : (c.self.inside.done.items ++ open_rest c.self.inside.claimed) ++ c.args.attempt ∷ []
+    ≡ c.self.inside.done.items ++ c.args.attempt ∷ [] =
+    held_more c.self.inside.done.items c.self.inside.claimed c.args.attempt none in
+    let task_done : c.push-2.new.self.items ++ open_rest c.self.inside.claimed
+    ≡ c.push-2.new.self.items = held_none c.push-2.new.self.items c.self.inside.claimed none in
+    let pushed : c.push-2.new.self.items ≡ c.self.inside.done.items ++ c.args.attempt ∷ [] =
+    search rules in
+    let list : c.push-2.new.self.items ++ open_rest c.self.inside.claimed
+    ≡ (c.self.inside.done.items ++ open_rest c.self.inside.claimed) ++ c.args.attempt ∷ [] =
+    task_done ∙ pushed ∙ sym more in
+    let in_progress : c.keep.new.in_progress.items
+    ≡ progress_with c.self.inside.in_progress.items c.args.attempt.key = search rules in
+    let line : c.in_ok-line.line
+    ≡ line_of c.self.inside.board.now Try (length c.self.inside.done.items) c.args.attempt =
+    search rules in
+    let lines : c.push.new.self.items ≡ c.args.report.now.lines.items ++ c.in_ok-line.line ∷ [] =
+    search rules in
+    let told : c.push.new.self.items
+    ≡ c.args.report.now.lines.items
+    ++ line_of c.self.inside.board.now Try
+    (count_by is_closed
+    (c.self.inside.done.items ++ open_rest c.self.inside.claimed)) c.args.attempt ∷ [] =
+    lines ∙ ap (λ l. c.args.report.now.lines.items ++ l ∷ [])
+    (line ∙ ap (λ k. line_of c.self.inside.board.now Try k c.args.attempt) (sym count)) in
+    rw (← c.self.view_is)
+    (built_same c.self.inside.board.now c.self.inside.files.items c.self.inside.last_file c.self.inside.asked _ _ _ _ (c.self.inside.batches + 1) c.args.report.now.opened (c.args.report.now.steps + 1) _ _ c.args.report.now.unstaged.items c.args.report.now.removed.items c.args.report.now.pending list in_progress told)
 
-pub returns-clause-rests : goal.returns-clause-rests
-returns-clause-rests c =
-    let rests : find is_open (c.self.inside.done.items ++ open_rest c.self.inside.claimed) ≡ None = subst (λ m. find is_open m.list ≡ None) (sym c.self.view_is) c.requires.rests in
-    let none : c.self.inside.claimed ≡ None = none_held c.self.inside.done.items c.self.inside.claimed c.self.invariant.closed_before c.self.invariant.open_last rests in
-    let pushed : c.push-2.new.self.items ≡ c.self.inside.done.items ++ c.args.attempt ∷ [] = search rules in
-    rests_held c.push-2.new.self.items c.self.inside.claimed (subst (λ l. IsTrue (list_all is_closed l)) (sym pushed) (all_closed_more c.self.inside.done.items c.args.attempt c.self.invariant.closed_before c.requires.closed)) none
+pub returns-clause-rule : goal.returns-clause-rule
+returns-clause-rule c =
+    let rests : find is_open (c.self.inside.done.items ++ open_rest c.self.inside.claimed) ≡ None =
+    subst (λ m. find is_open m.list ≡ None) (sym c.self.view_is) c.requires.rests in
+    let none : c.self.inside.claimed ≡ None =
+    none_held c.self.inside.done.items c.self.inside.claimed c.self.invariant.closed_before c.self.invariant.open_last rests in
+    let pushed : c.push-2.new.self.items ≡ c.self.inside.done.items ++ c.args.attempt ∷ [] =
+    search rules in
+    rests_held c.push-2.new.self.items c.self.inside.claimed
+    (subst (λ l. IsTrue (list_all is_closed l)) (sym pushed)
+    (all_closed_more c.self.inside.done.items c.args.attempt c.self.invariant.closed_before c.requires.closed)) none

@@ -4,4 +4,5 @@ use Rattle.reference_machine.specs.Machine.{File}
 use Rattle.reset_play.proofs.thin_play.platform.steps.take_out.Goals as goal
 
 pub returns : goal.returns
-returns c = filter_same _ (λ (x : File). not (x.serial == c.args.serial)) _ (λ x b f' t. search rules) _ _ c.retain.ensures.filtered
+returns c = filter_same _ (λ (x : File). not (x.serial == c.args.serial)) _
+    (λ x b f' t. search rules) _ _ c.retain.ensures.filtered
