@@ -20,10 +20,10 @@ pub regions_more : (old : List RegionValue) (f : DeviceValue → List ℕ) (ds :
 regions_more old f ds i d within is =
     append_assoc old (map stable_region (map f (take i ds))) (stable_region (f d) ∷ [])
     ∙ ap (λ (rs : List RegionValue). old ++ rs)
-        (ap (λ (e : DeviceValue). map stable_region (map f (take i ds)) ++ stable_region (f e) ∷ []) is
-        ∙ sym (map_push stable_region (map f (take i ds)) (f (get_or ds i d)))
-        ∙ ap (λ (rs : List (List ℕ)). map stable_region rs) (sym (map_push f (take i ds) (get_or ds i d)))
-        ∙ ap (λ (es : List DeviceValue). map stable_region (map f es)) (sym (take_more ds i d within)))
+    (ap (λ (e : DeviceValue). map stable_region (map f (take i ds)) ++ stable_region (f e) ∷ []) is
+    ∙ sym (map_push stable_region (map f (take i ds)) (f (get_or ds i d)))
+    ∙ ap (λ (rs : List (List ℕ)). map stable_region rs) (sym (map_push f (take i ds) (get_or ds i d)))
+    ∙ ap (λ (es : List DeviceValue). map stable_region (map f es)) (sym (take_more ds i d within)))
 
 no_mark : (n at : ℕ) → get_or (replicate n false) at false ≡ false
 no_mark zero at = refl
@@ -40,22 +40,22 @@ pub laid_contents : (b : BoardValue) (regions : List RegionValue) (devices : Lis
     → regions ≡ map stable_region (first_regions b) → devices ≡ replicate n no_tickets
     → folder ≡ record { files = []; last_serial = 0 } → memory ≡ []
     → (let made : Contents = record {
-          told = true;
-          regions = length regions;
-          bytes = bytes_by regions;
-          dirty = dirty_by regions;
-          rest = record { begun = begun_by devices; open_device = None; folder = folder; memory = memory };
-        } in made ≡ first_contents true b)
+      told = true;
+      regions = length regions;
+      bytes = bytes_by regions;
+      dirty = dirty_by regions;
+      rest = record { begun = begun_by devices; open_device = None; folder = folder; memory = memory };
+    } in made ≡ first_contents true b)
 laid_contents b regions devices n folder memory are none empty bare =
     let all : List (List ℕ) = first_regions b in
     let one : (k : ℕ) → get_or regions k no_region ≡ stable_region (get_or all k []) =
-        λ k. ap (λ (rs : List RegionValue). get_or rs k no_region) are ∙ get_or-map stable_region all k [] in
+    λ k. ap (λ (rs : List RegionValue). get_or rs k no_region) are ∙ get_or-map stable_region all k [] in
     let long : length regions ≡ length all = ap length are ∙ length-map all stable_region in
     let bytes : (k : ℕ) → bytes_by regions k ≡ get_or all k [] = λ k. ap (λ (r : RegionValue). r.bytes) (one k) in
     let clean : (k at : ℕ) → dirty_by regions k at ≡ false =
-        λ k at. ap (λ (r : RegionValue). get_or r.marks at false) (one k) ∙ no_mark (length (get_or all k [])) at in
+    λ k at. ap (λ (r : RegionValue). get_or r.marks at false) (one k) ∙ no_mark (length (get_or all k [])) at in
     let begun : (d : ℕ) → begun_by devices d ≡ [] =
-        λ d. ap (λ (ts : List TicketsValue). (get_or ts d no_tickets).begun) none ∙ ap (λ (t : TicketsValue). t.begun) (no_ticket n d) in
+    λ d. ap (λ (ts : List TicketsValue). (get_or ts d no_tickets).begun) none ∙ ap (λ (t : TicketsValue). t.begun) (no_ticket n d) in
     λ i. record {
       told = true;
       regions = long i;

@@ -36,8 +36,8 @@ one_fewer : (q : File → Bool) (xs : List File) → list_any q xs ≡ true → 
 one_fewer q [] some = absurd (false≢true some)
 one_fewer q (x ∷ xs) some =
     elim (cases_Bool (q x)) [
-      inl is ↦ rw is (omega (arith, fewer (λ y. not (q y)) xs))
-    | inr not_is ↦ rw not_is (omega (arith, one_fewer q xs (subst (λ (b : Bool). (b || list_any q xs) ≡ true) not_is some)))
+      | inl is ↦ rw is (omega (arith, fewer (λ y. not (q y)) xs))
+      | inr not_is ↦ rw not_is (omega (arith, one_fewer q xs (subst (λ (b : Bool). (b || list_any q xs) ≡ true) not_is some)))
     ]
 
 -- the three tests of a full folder
@@ -55,7 +55,7 @@ apart : (name : List ℕ) (xs : List File) (k : ℕ) (d : File) → k < length (
     → str_to_ascii_uppercase (get_or (others_than name xs) k d).name ≢ str_to_ascii_uppercase name
 apart name xs k d within same =
     let passes : not (is_same_name (get_or (others_than name xs) k d).name name) ≡ true =
-        filter_passes (λ x. not (is_same_name x.name name)) xs k d within in
+    filter_passes (λ x. not (is_same_name x.name name)) xs k d within in
     let is : is_same_name (get_or (others_than name xs) k d).name name ≡ true = (bytes_eq-Decides _ _).1 same in
     false≢true (ap not (sym is) ∙ passes)
 
@@ -69,15 +69,15 @@ pub IsFolder-put : (f : FolderValue) (name bytes : List ℕ) → IsFolder f → 
     → is_folder_full f name (length bytes) ≡ false → IsFolder (with_put f name bytes)
 IsFolder-put f name bytes rule named small room =
     let tests : ((nat_le MAX_FILES (length f.files) ≡ false) ⊎ (has_file name f.files ≡ true))
-        × (nat_lt MAX_FOLDER_BYTES (bytes_in (others_than name f.files) + length bytes) ≡ false)
-        × (nat_le (2 ^ 64 - 1) f.last_serial ≡ false) = not_full _ _ _ _ room in
+    × (nat_lt MAX_FOLDER_BYTES (bytes_in (others_than name f.files) + length bytes) ≡ false)
+    × (nat_le (2 ^ 64 - 1) f.last_serial ≡ false) = not_full _ _ _ _ room in
     let kept : List File = others_than name f.files in
     let new : File = record { name = name; serial = f.last_serial + 1; bytes = bytes } in
     let rest : IsFolder (record f { files = kept }) = IsFolder-filter (λ x. not (is_same_name x.name name)) f rule in
     record {
       each = All-push (IsFile (f.last_serial + 1)) kept new
           (λ k d within. let one : IsFile f.last_serial (get_or kept k d) = rest.each k d within in
-              record { name = one.name; size = one.size; drawn = omega (arith, one.drawn) })
+          record { name = one.name; size = one.size; drawn = omega (arith, one.drawn) })
           (record { name = named; size = small; drawn = omega arith });
       names = all_pairs_push DifferInName kept new rest.names (λ k d within. apart name f.files k d within);
       serials = all_pairs_push DifferInSerial kept new rest.serials
@@ -100,9 +100,9 @@ front_pairs R xs n pairs i j d below within =
     let here : j < n = omega (arith, length-take n xs) in
     let there : j < length xs = omega (arith, length-take n xs) in
     let at : (k : ℕ) → k ≤ j → get_or (listed (take n xs)) k d ≡ tell (get_or xs k no_file) =
-        λ k le. get_or-map tell (take n xs) k no_file d (omega arith) ∙ ap tell (get_or-take n xs k no_file (omega arith)) in
+    λ k le. get_or-map tell (take n xs) k no_file d (omega arith) ∙ ap tell (get_or-take n xs k no_file (omega arith)) in
     subst (λ (y : ListedFile). R (get_or (listed (take n xs)) i d) y) (sym (at j (omega arith)))
-        (subst (λ (x : ListedFile). R x (tell (get_or xs j no_file))) (sym (at i (omega arith))) (pairs i j no_file below there))
+    (subst (λ (x : ListedFile). R x (tell (get_or xs j no_file))) (sym (at i (omega arith))) (pairs i j no_file below there))
 
 sum_of_map : (xs : List File) (a : ℕ) → fold (λ a (x : ListedFile). a + x.size) a (listed xs) ≡ fold (λ a (x : File). a + length x.bytes) a xs
 sum_of_map [] a = refl

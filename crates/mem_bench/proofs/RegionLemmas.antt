@@ -36,7 +36,7 @@ written old new at bytes rule fits is marked =
       };
       dirt = λ k out clean. ap (λ (l : List Bool). get_or l k false) marked
           ∙ overlaid_outside old.marks at (replicate (length bytes) true) (omega (arith, n, rule.marks)) k false
-              (subst (λ (m : ℕ). IsOutside at m k) (sym n) out)
+          (subst (λ (m : ℕ). IsOutside at m k) (sym n) out)
           ∙ clean;
     }
 
@@ -45,4 +45,4 @@ pub in_list : (R : RegionValue → RegionValue → Type 0) (xs : List RegionValu
     → y ≡ get_or xs k y → R y x → R (get_or xs k no_region) (get_or (slice_set xs k x) k no_region)
 in_list R xs k y x there was r =
     subst (λ (a : RegionValue). R (get_or xs k no_region) a) (sym (get_or-set_same xs k x no_region there))
-        (subst (λ (a : RegionValue). R a x) (get_or_read xs k y there was no_region) r)
+    (subst (λ (a : RegionValue). R a x) (get_or_read xs k y there was no_region) r)

@@ -1,4 +1,5 @@
 pub mod Folders
 pub mod Parts
+pub mod Quiet
 pub mod Regions
 pub mod State

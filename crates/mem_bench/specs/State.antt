@@ -1,9 +1,10 @@
 -- What a bench in memory is as a bench. It tells all.
-use Rattle.std.specs.Prelude.{ℕ, Bool, true, false, List, length, get_or, Option, Some}
+use Rattle.std.specs.Prelude.{ℕ, Bool, true, false, List, [], length, get_or, Option, None, Some}
 use Rattle.cu_base.specs.declared.ticket.Ticket.{Ticket}
 use Rattle.bench_model.specs.declared.segment.Segment.{Segment}
 use Rattle.bench_model.specs.Bench.{BenchValue, Orders}
 use Rattle.bench_model.specs.Files.{FolderValue}
+use Rattle.bench_model.specs.Plans.{no_plan}
 use Rattle.mem_bench.specs.declared.bench.MemBench.{MemBench}
 use Rattle.mem_bench.specs.declared.clerk.Clerk.{Clerk}
 use Rattle.mem_bench.specs.Parts.{TicketsValue, no_tickets}
@@ -44,3 +45,9 @@ state_from regions devices open_device folder memory orders clerk = record {
 -- the bench
 abbrev pub state_of : MemBench → BenchValue
 state_of b = state_from b.regions.items b.devices.items b.open_device b.folder b.memory b.orders b.clerk
+
+-- no regions, an empty folder, no memory and the empty plan, with nothing counted
+abbrev pub empty_state : BenchValue
+empty_state =
+    state_from [] [] None (record { files = []; last_serial = 0 }) [] (record { given = []; room = 0 })
+    (record { plan = no_plan; counts = record { moves = 0; looks = 0; flash_faults = 0; volume_faults = 0 } })

@@ -23,13 +23,12 @@ pub struct MemBench {
 }
 
 impl MemBench {
-    ghost use Rattle.std.specs.Prelude.{◌≡◌, [], None};
-    ghost use Rattle.bench_model.specs.Plans.{no_plan};
-    ghost use Rattle.mem_bench.specs.State.{state_of, state_from};
+    ghost use Rattle.std.specs.Prelude.{◌≡◌};
+    ghost use Rattle.mem_bench.specs.State.{empty_state, state_of};
 
     /// A bench with no regions, an empty folder and no memory, whose plan is empty. It takes no memory.
     pub fn new(alloc: Global) -> MemBench
-        ensures { state_of result ≡ state_from [] [] None (record { files = []; last_serial = 0 }) [] (record { given = []; room = 0 }) (record { plan = no_plan; counts = record { moves = 0; looks = 0; flash_faults = 0; volume_faults = 0 } }) }
+        ensures { state_of result ≡ empty_state }
     {
         MemBench {
             regions: Vec::new(alloc),

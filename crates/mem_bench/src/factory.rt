@@ -79,7 +79,11 @@ fn first_device(alloc: Global, two_banks: bool, device: &Device) -> Result<Regio
     ensures { IfOk result (λ r. r ≡ stable_region (first_device two_banks device.now)) }
 {
     let head = slot_head(alloc, device.version, device.floor)?;
-    headed(alloc, region_size(two_banks, device.capacity), head.as_slice())
+    headed(
+        alloc,
+        region_size(two_banks, device.capacity),
+        head.as_slice(),
+    )
 }
 
 /// The bytes of a device's region.

@@ -2,9 +2,7 @@ ghost use Rattle.std.specs.Prelude.{◌≡◌, ◌+◌, ◌≤◌, [], length, I
 ghost use Rattle.cu_base.specs.Fields.{field};
 ghost use Rattle.bench_model.specs.Files.{file_bytes, is_file_name, is_folder_full, listed, with_put, without_serial};
 
-use crate::stored_file::{
-    StoredFile, bytes_of_others, drop_name, drop_serial, file_of, has_file,
-};
+use crate::stored_file::{StoredFile, bytes_of_others, drop_name, drop_serial, file_of, has_file};
 use bench_model::{Listed, Listing, MAX_FILE_BYTES, MAX_FILES, MAX_FOLDER_BYTES};
 use cu_base::{NoMemory, Text};
 use std::alloc::Global;

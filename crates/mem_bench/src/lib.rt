@@ -7,12 +7,16 @@ mod clerk;
 mod factory;
 mod flash;
 mod folder;
+mod never_fails;
 mod order_book;
 mod orders;
 mod region;
 mod reset;
 mod stored_file;
+#[cfg(test)]
+mod tests;
 mod tickets;
 mod volume;
 
 pub use bench::MemBench;
+pub use never_fails::NeverFails;

@@ -44,6 +44,13 @@ impl OrderBook {
         Ok(())
     }
 
+    /// How many more orders need no memory.
+    pub fn room(&self) -> usize
+        ensures { result ≡ self.now.room }
+    {
+        self.room
+    }
+
     /// Keeps an order.
     pub fn push(&mut self, order: Ordered)
         requires { 1 ≤ self.old.room }

@@ -71,7 +71,7 @@ impl MemBench {
     ghost use Rattle.mem_bench.specs.State.{state_of};
 
     /// Keeps an order with the counts of faults as they stand.
-    fn keep(&mut self, order: Order)
+    pub(crate) fn keep(&mut self, order: Order)
         requires { 1 ≤ self.old.orders.room }
         ensures { self.new ≡ record self.old { orders = with_order order (state_of self.old) } }
     {

@@ -25,7 +25,12 @@ impl Model for StoredFile {
 
 impl StoredFile {
     /// A file of this name and these bytes.
-    pub fn new(alloc: Global, name: &Text, serial: u64, bytes: &[u8]) -> Result<StoredFile, NoMemory>
+    pub fn new(
+        alloc: Global,
+        name: &Text,
+        serial: u64,
+        bytes: &[u8],
+    ) -> Result<StoredFile, NoMemory>
         ensures { IfOk result (λ f. f ≡ record { name = name.now; serial = serial; bytes = bytes.now }) }
     {
         Ok(StoredFile {

@@ -14,7 +14,7 @@ loop-device-preserved c =
     let made : c.in_ok-first_device.field-0 ≡ stable_region (first_device c.args.two_banks c.device-item.result) = c.in_ok-first_device.ensures in
     let pushed : c.push.new.items.items ≡ c.loop-device.regions.items ++ c.in_ok-first_device.field-0 ∷ [] = c.in_ok-push.ensures in
     let more = regions_more c.args.regions.now.items (first_device c.args.two_banks) c.args.devices.now c.loop-device.device-index
-        c.device-item.result c.loop-device-test.true c.device-item.is in
+    c.device-item.result c.loop-device-test.true c.device-item.is in
     record {
       so_far = pushed
           ∙ ap (λ (r : RegionValue). c.loop-device.regions.items ++ r ∷ []) made

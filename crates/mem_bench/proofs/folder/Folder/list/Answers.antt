@@ -15,5 +15,5 @@ with_this c =
 pub push-requires : goal.push-requires
 push-requires c =
     let front : IsListing (listed (take (c.loop-file.file-index + 1) c.self.inside.files.items)) =
-        IsListing-front _ (c.loop-file.file-index + 1) c.self.invariant in
+    IsListing-front _ (c.loop-file.file-index + 1) c.self.invariant in
     rw (← with_this c, c.deref-file-items.ensures.value) front
