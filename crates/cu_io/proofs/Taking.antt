@@ -7,12 +7,16 @@ use Rattle.std.proofs.lemmas.List.{take-append-le}
 use Rattle.std.proofs.KnownBytes.{Consumes-trans}
 use borrow.Rule.Slice.PartMut.{put_mid}
 use Rattle.cu_base.specs.Causes.{RoseBy}
-use Rattle.cu_io.specs.Streams.{TakesSome, Progress, Goes, Passes}
+use Rattle.cu_io.specs.Streams.{SourceSeen, TakesSome, Progress, Goes, Passes}
 
 -- some bytes, after these
-pub takes_some_after : (a b c : Option (List ℕ)) (before : List ℕ) (room most : ℕ) → Consumes a b before → length before + room ≤ most → TakesSome room b c → TakesSome most a c
-takes_some_after a b c before room most first within (bytes, short, then) =
-    (before ++ bytes, omega (arith, length-append before bytes), Consumes-trans a b c before bytes first then)
+pub takes_some_after : (a b c : SourceSeen) (before : List ℕ) (room most : ℕ)
+    → Consumes a.left b.left before → length before + room ≤ most → TakesSome room b c → TakesSome most a c
+takes_some_after a b c before room most first within (bytes, short, then) = (
+  before ++ bytes,
+  omega (arith, length-append before bytes),
+  Consumes-trans a.left b.left c.left before bytes first then,
+)
 
 pub rose_after : (m n a b c : ℕ) → RoseBy m a b → RoseBy n b c → RoseBy (m + n) a c
 rose_after m n a b c first then = omega (arith, first, then)

@@ -13,7 +13,7 @@ further a b c xs d n before here =
 
 pub loop-done-preserved : goal.loop-done-preserved
 loop-done-preserved g c = record {
-  within = omega (arith, c.in-Ok.ensures.bound, length-drop c.loop-done.done c.args.bytes.now);
-  written = further _ _ _ c.args.bytes.now _ _ c.loop-done.invariant.written c.in-Ok.ensures.bytes;
+  within = omega (arith, c.in-Ok.ensures.bound.0, length-drop c.loop-done.done c.args.bytes.now);
+  written = further _ _ _ c.args.bytes.now _ _ c.loop-done.invariant.written c.in-Ok.ensures.writes;
   later = omega (arith, c.write.ensures.cause.later);
 }
