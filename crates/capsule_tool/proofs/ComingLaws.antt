@@ -6,12 +6,13 @@ use Rattle.bench_model.specs.Boards.{BoardValue}
 use Rattle.cu_io.specs.Named.{Named}
 use Rattle.reset_play.specs.ScriptInputs.{inputs_of}
 use Rattle.reset_play.specs.declared.event.Event.{Event}
-use Rattle.capsule_tool.specs.Findings.{Finding}
-use Rattle.capsule_tool.specs.Plays.{input_work, inputs_work, played}
-use Rattle.capsule_tool.specs.Readings.{Seen}
-use Rattle.capsule_tool.specs.Works.{Work, ComesTo, MayFind, MayStop}
+use Rattle.capsule_tool.specs.Plays.{input_work, inputs_work, events_work, played}
+use Rattle.cu_io.specs.Seen.{Seen}
+use Rattle.capsule_tool.specs.Steps.{StopsAt}
+use Rattle.capsule_tool.specs.Works.{Work, ComesTo}
 use Rattle.capsule_tool.specs.Works.Work.{Finds}
-use Rattle.capsule_tool.proofs.WorkLaws.{through, find_through, stop_through, stays}
+use Rattle.capsule_tool.specs.declared.stop.Stop.{Stop}
+use Rattle.capsule_tool.proofs.WorkLaws.{through, then_stops, stays}
 
 -- the work on these names has come to those from the i-th on, where the others are loaded
 pub record HasCome (named : Option Named) (board : BoardValue) (names : List (List ℕ)) (before : Seen) (loaded : Named) (sum i : ℕ) (after : Seen) : Type 0 where
@@ -36,23 +37,16 @@ come_on named' named board names b loaded sum i m name loaded' sum' a come is sa
       (rw same at (then (λ loaded sum. inputs_work board events loaded sum (drop (i + 1) names))));
 }
 
-pub come_found : (named' named : Option Named) (board : BoardValue) (names : List (List ℕ)) (b : Seen) (loaded : Named) (sum i : ℕ) (m : Seen)
-    (name : List ℕ) (a : Seen) (finding : Finding)
-    → HasCome named board names b loaded sum i m → drop i names ≡ name ∷ drop (i + 1) names
-    → named' ≡ named → ((rest : Named → ℕ → Work) → MayFind named' (input_work board loaded sum name rest) m a finding)
-    → (events : List Event) → MayFind named (inputs_work board events [] 0 names) b a finding
-come_found named' named board names b loaded sum i m name a finding come is same then events =
-    find_through named (inputs_work board events [] 0 names) b _ m a finding (rw (opens board events loaded sum i names name is) at (come.comes events))
-    (rw same at (then (λ loaded sum. inputs_work board events loaded sum (drop (i + 1) names))))
-
-pub come_stopped : (named' named : Option Named) (board : BoardValue) (names : List (List ℕ)) (b : Seen) (loaded : Named) (sum i : ℕ) (m : Seen)
-    (name : List ℕ) (a : Seen)
-    → HasCome named board names b loaded sum i m → drop i names ≡ name ∷ drop (i + 1) names
-    → named' ≡ named → ((rest : Named → ℕ → Work) → MayStop named' (input_work board loaded sum name rest) m a)
-    → (events : List Event) → MayStop named (inputs_work board events [] 0 names) b a
-come_stopped named' named board names b loaded sum i m name a come is same then events =
-    stop_through named (inputs_work board events [] 0 names) b _ m a (rw (opens board events loaded sum i names name is) at (come.comes events))
-    (rw same at (then (λ loaded sum. inputs_work board events loaded sum (drop (i + 1) names))))
+pub come_stopped : (board : BoardValue) (names : List (List ℕ)) (b : Seen) (loaded : Named)
+    (sum i : ℕ) (m : Seen) (name : List ℕ) (a : Seen) (stop : Stop)
+    → HasCome b.named board names b loaded sum i m → drop i names ≡ name ∷ drop (i + 1) names
+    → m.named ≡ b.named
+    → ((rest : Named → ℕ → Work) → StopsAt (input_work board loaded sum name rest) m a stop)
+    → (events : List Event) → StopsAt (inputs_work board events [] 0 names) b a stop
+come_stopped board names b loaded sum i m name a stop come is same stops events =
+    then_stops (inputs_work board events [] 0 names) b _ m a stop
+    (rw (opens board events loaded sum i names name is) at (come.comes events)) same
+    (stops (λ loaded sum. inputs_work board events loaded sum (drop (i + 1) names)))
 
 pub come_done : (named : Option Named) (board : BoardValue) (names : List (List ℕ)) (b : Seen) (loaded : Named) (sum i : ℕ) (a : Seen)
     → HasCome named board names b loaded sum i a → drop i names ≡ []
@@ -75,14 +69,14 @@ pub drop_past : (names : List (List ℕ)) (i : ℕ) → length names ≤ i → d
 drop_past names i past = drop_all i names past
 
 -- the names of a script
-pub names_come : (named : Option Named) (board : BoardValue) (events : List Event) (names : List (List ℕ)) (b : Seen) (w : Work) (a : Seen) → names ≡ inputs_of events
-    → ComesTo named (inputs_work board events [] 0 names) b w a → ComesTo named (inputs_work board events [] 0 (inputs_of events)) b w a
+pub names_come : (named : Option Named) (board : BoardValue) (events : List Event)
+    (names : List (List ℕ)) (b : Seen) (w : Work) (a : Seen) → names ≡ inputs_of events
+    → ComesTo named (inputs_work board events [] 0 names) b w a
+    → ComesTo named (events_work board events) b w a
 names_come named board events names b w a is comes = rw is at comes
 
-pub names_find : (named : Option Named) (board : BoardValue) (events : List Event) (names : List (List ℕ)) (b a : Seen) (finding : Finding) → names ≡ inputs_of events
-    → MayFind named (inputs_work board events [] 0 names) b a finding → MayFind named (inputs_work board events [] 0 (inputs_of events)) b a finding
-names_find named board events names b a finding is found = rw is at found
-
-pub names_stop : (named : Option Named) (board : BoardValue) (events : List Event) (names : List (List ℕ)) (b a : Seen) → names ≡ inputs_of events
-    → MayStop named (inputs_work board events [] 0 names) b a → MayStop named (inputs_work board events [] 0 (inputs_of events)) b a
-names_stop named board events names b a is stops = rw is at stops
+pub names_stop : (board : BoardValue) (events : List Event) (names : List (List ℕ)) (b a : Seen)
+    (stop : Stop) → names ≡ inputs_of events
+    → StopsAt (inputs_work board events [] 0 names) b a stop
+    → StopsAt (events_work board events) b a stop
+names_stop board events names b a stop is stops = rw is at stops

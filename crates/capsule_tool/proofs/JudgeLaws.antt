@@ -4,7 +4,7 @@ use Rattle.std.specs.Prelude.{Option, None, Some, IsSome, IsSomeAnd}
 use Rattle.std.specs.Io.KnownBytes.{Consumes, IsAtEnd}
 use Rattle.cu_base.specs.Causes.{RoseBy}
 use Rattle.cu_io.specs.Named.{Named, bytes_named, Opens}
-use Rattle.cu_io.specs.Streams.{Progress, Goes, Passes}
+use Rattle.cu_io.specs.Streams.{SourceSeen, Progress, come_to, Goes, Passes}
 use Rattle.capsule_tool.specs.Readings.{MayHold, MayPassLimit}
 
 -- a stream that was just made
@@ -12,8 +12,10 @@ pub record IsBegun (rest : Option (List ℕ)) (count : ℕ) (p : Progress) : Typ
   pub left : p.left ≡ rest
   pub taken : p.taken ≡ count
 
-pub begun : (left : Option (List ℕ)) (taken faults : ℕ) (p : Progress) → p ≡ record { left = left; taken = taken; faults = faults; place = 0 } → IsBegun left taken p
-begun left taken faults p is = record { left = ap (λ (p : Progress). p.left) is; taken = ap (λ (p : Progress). p.taken) is }
+pub begun : (source : SourceSeen) (p : Progress) → p ≡ come_to source 0
+    → IsBegun source.left source.taken p
+begun source p is =
+    record { left = ap (λ (p : Progress). p.left) is; taken = ap (λ (p : Progress). p.taken) is }
 
 no_some : IsSome {T = List ℕ} None → ⊥
 no_some is = cc

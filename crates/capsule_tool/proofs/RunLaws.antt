@@ -2,7 +2,6 @@
 use Rattle.std.proofs.Common.{◌≡◌, ◌≢◌, ℕ, ◌+◌, ◌<◌, ◌≤◌, ◌⊎◌, inl, inr, Bool, true, false, cond, List, [], ◌∷◌, ◌++◌, length, Option, None, Some, refl, sym, ◌∙◌, ap, arith, nat_lt}
 use Rattle.std.specs.Prelude.{IsSomeAnd, sum_by, Result, Ok, Err}
 use Rattle.std.specs.List.{list_all}
-use Rattle.std.specs.Io.KnownBytes.{Appends}
 use Rattle.std.proofs.lemmas.List.Sums.{sum_by-cons}
 use Rattle.bench_model.specs.Boards.{BoardValue}
 use Rattle.cu_base.specs.Causes.{Rose, RoseBy}
@@ -14,23 +13,25 @@ use Rattle.reset_play.specs.ScriptInputs.{inputs_of}
 use Rattle.reset_play.specs.ScriptText.{Said as ScriptSaid, script_said}
 use Rattle.reset_play.specs.declared.event.Event.{Event}
 use Rattle.capsule_tool.specs.Answers.{usage, later, unread, long}
-use Rattle.capsule_tool.specs.Check.{verdict_of}
+use Rattle.capsule_tool.specs.Verdicts.{verdict_of}
 use Rattle.capsule_tool.specs.Files.{verdict_answer, rebuilt_by}
 use Rattle.capsule_tool.specs.Findings.{Finding, bare}
-use Rattle.capsule_tool.specs.Forms.{form_of}
+use Rattle.capsule_tool.specs.Commands.{command_of}
 use Rattle.capsule_tool.specs.Plays.{board_next, script_work, script_next, inputs_work}
-use Rattle.capsule_tool.specs.Readings.{Seen, reading_of}
+use Rattle.cu_io.specs.Seen.{Seen}
+use Rattle.cu_io.specs.Streams.{SinkSeen, AppendsAll}
+use Rattle.capsule_tool.specs.Readings.{reading_of}
 use Rattle.capsule_tool.specs.Runs.{Writes, AnswersAsTold, IsUsage, IsUnread, IsLongOne, IsLong, Judges, EndsBy}
 use Rattle.capsule_tool.specs.Statuses.{code_of}
 use Rattle.capsule_tool.specs.Told.{word, work_by, work_of, told}
 use Rattle.capsule_tool.specs.Works.{Work, by_reading, told_by, Comes, ComesTo, EndsAt, MayFind}
 use Rattle.capsule_tool.specs.Works.Work.{Finds, Reads}
 use Rattle.capsule_tool.specs.declared.answer.Answer.{Answer}
-use Rattle.capsule_tool.specs.declared.check.Verdict.{Verdict}
-use Rattle.capsule_tool.specs.declared.check.Verdict.TheVariants.{Whole as WholeCapsule, Refused, Trailing}
-use Rattle.capsule_tool.specs.declared.form.Form.{Form}
-use Rattle.capsule_tool.specs.declared.form.Form.TheVariants.{Check, Show, Rebuild, Make, Play, Load}
-use Rattle.capsule_tool.specs.declared.input.Reading.TheVariants.{Whole, Unread, Long}
+use Rattle.capsule_tool.specs.declared.verdict.Verdict.{Verdict}
+use Rattle.capsule_tool.specs.declared.verdict.Verdict.TheVariants.{Whole as WholeCapsule, Refused, Trailing}
+use Rattle.capsule_tool.specs.declared.command.Command.{Command}
+use Rattle.capsule_tool.specs.declared.command.Command.TheVariants.{Check, Show, Rebuild, Make, Play, Load}
+use Rattle.capsule_tool.specs.Readings.Reading.{Whole, Unread, Long}
 use Rattle.capsule_tool.specs.declared.limits.TheConstants.{MAX_NAMED_BYTES}
 use Rattle.capsule_tool.specs.declared.status.Status.{Status}
 use Rattle.capsule_tool.specs.declared.status.Status.TheVariants as statuses
@@ -92,7 +93,7 @@ end_of P named [] (Reads limit name next) finding comes ends = absurd (finds_rea
 end_of P named (bytes ∷ rest) (Finds it) finding comes ends = absurd comes
 end_of P named (bytes ∷ rest) (Reads limit name next) finding (holds, short, comes) ends = end_of P named rest (next bytes) finding comes (ends bytes)
 
--- an end tells neither an unread input, nor words of no form, nor what only a write or want of memory tells; a trace is of
+-- an end tells neither an unread input, nor words of no command, nor what only a write or want of memory tells; a trace is of
 -- work that was done
 record IsEnd (finding : Finding) : Type 0 where
   not2 : code_of finding.answer.status ≢ 2
@@ -144,13 +145,13 @@ board_end : (name script : List ℕ) (said : Result BoardValue (BadKind × List 
 board_end name script (Err fault) = bare_end _ (omega arith) (omega arith) (omega arith) (omega arith)
 board_end name script (Ok board) = one_end board name script (has_one_device board)
 
-form_ends : (form : Form) (words : List (List ℕ)) → Ends IsEnd (work_by (Some form) words)
-form_ends Check words = λ bytes. verdict_end (verdict_of bytes)
-form_ends Show words = bare_end _ (omega arith) (omega arith) (omega arith) (omega arith)
-form_ends Rebuild words = λ bytes. rebuilt_end (verdict_of bytes) bytes
-form_ends Make words = bare_end _ (omega arith) (omega arith) (omega arith) (omega arith)
-form_ends Play words = λ bytes. board_end (word words 1) (word words 2) (board_text bytes)
-form_ends Load words = bare_end _ (omega arith) (omega arith) (omega arith) (omega arith)
+command_ends : (command : Command) (words : List (List ℕ)) → Ends IsEnd (work_by (Some command) words)
+command_ends Check words = λ bytes. verdict_end (verdict_of bytes)
+command_ends Show words = bare_end _ (omega arith) (omega arith) (omega arith) (omega arith)
+command_ends Rebuild words = λ bytes. rebuilt_end (verdict_of bytes) bytes
+command_ends Make words = bare_end _ (omega arith) (omega arith) (omega arith) (omega arith)
+command_ends Play words = λ bytes. board_end (word words 1) (word words 2) (board_text bytes)
+command_ends Load words = bare_end _ (omega arith) (omega arith) (omega arith) (omega arith)
 
 -- only the sum of the inputs ends a work with 7, after more than its limit was taken; n bytes were taken before
 abbrev Sums : ℕ → Work → Type 0
@@ -206,14 +207,14 @@ board_sum : (n : ℕ) (name script : List ℕ) (said : Result BoardValue (BadKin
 board_sum n name script (Err fault) = λ is. absurd (omega (arith, is))
 board_sum n name script (Ok board) = one_sum n board name script (has_one_device board)
 
-form_sums : (form : Option Form) (words : List (List ℕ)) → Sums 0 (work_by form words)
-form_sums None words = λ is. absurd (omega (arith, is))
-form_sums (Some Check) words = λ bytes. verdict_sum (0 + length bytes) (verdict_of bytes)
-form_sums (Some Show) words = λ is. absurd (omega (arith, is))
-form_sums (Some Rebuild) words = λ bytes. rebuilt_sum (0 + length bytes) (verdict_of bytes) bytes
-form_sums (Some Make) words = λ is. absurd (omega (arith, is))
-form_sums (Some Play) words = λ bytes. board_sum (0 + length bytes) (word words 1) (word words 2) (board_text bytes)
-form_sums (Some Load) words = λ is. absurd (omega (arith, is))
+command_sums : (command : Option Command) (words : List (List ℕ)) → Sums 0 (work_by command words)
+command_sums None words = λ is. absurd (omega (arith, is))
+command_sums (Some Check) words = λ bytes. verdict_sum (0 + length bytes) (verdict_of bytes)
+command_sums (Some Show) words = λ is. absurd (omega (arith, is))
+command_sums (Some Rebuild) words = λ bytes. rebuilt_sum (0 + length bytes) (verdict_of bytes) bytes
+command_sums (Some Make) words = λ is. absurd (omega (arith, is))
+command_sums (Some Play) words = λ bytes. board_sum (0 + length bytes) (word words 1) (word words 2) (board_text bytes)
+command_sums (Some Load) words = λ is. absurd (omega (arith, is))
 
 code_small : (status : Status) → code_of status ≤ 8
 code_small Done = omega arith
@@ -231,12 +232,12 @@ rose_less : (m n a b : ℕ) → m ≤ n → RoseBy n a b → RoseBy m a b
 rose_less m n a b low rose = omega (arith, low, rose)
 
 -- what a run finds where its work ends
-coming_end : (form : Option Form) (words : List (List ℕ)) (named : Option Named) (readings : List (List ℕ)) (finding : Finding)
-    → Comes named readings (work_by form words) (Finds finding) → ((form ≡ None) × (finding ≡ bare usage)) ⊎ IsEnd finding
+coming_end : (command : Option Command) (words : List (List ℕ)) (named : Option Named) (readings : List (List ℕ)) (finding : Finding)
+    → Comes named readings (work_by command words) (Finds finding) → ((command ≡ None) × (finding ≡ bare usage)) ⊎ IsEnd finding
 coming_end None words named readings finding comes =
     inl (refl, end_of (λ f. f ≡ bare usage) named readings (Finds (bare usage)) finding comes refl)
-coming_end (Some form) words named readings finding comes =
-    inr (end_of IsEnd named readings (work_by (Some form) words) finding comes (form_ends form words))
+coming_end (Some command) words named readings finding comes =
+    inr (end_of IsEnd named readings (work_by (Some command) words) finding comes (command_ends command words))
 
 code_at : (a b : Finding) → a ≡ b → code_of a.answer.status ≡ code_of b.answer.status
 code_at a b same = ap (λ (x : Finding). code_of x.answer.status) same
@@ -257,68 +258,68 @@ not_decided : (named : Option Named) (w : Work) (m a : Seen) (finding : Finding)
 not_decided named w m a finding k ends is not4 not7 = four_or_seven (code_of finding.answer.status) k (decided named w m a finding ends).0 is not4 not7
 
 -- a status that tells neither a failed write nor want of memory is that of what was found, and it was written
-written : (answer : Answer) (status k : ℕ) (w w' : Option (List ℕ)) (g g' : ℕ) → Writes answer status w w' g g' → status ≡ k → k ≢ 5 → k ≢ 6
-    → (code_of answer.status ≡ k) × Appends w w' answer.text
-written answer status k w w' g g' (inl (same, appends)) is not5 not6 = (sym same ∙ is, appends)
-written answer status k w w' g g' (inr (inl (same, rose, front))) is not5 not6 = absurd (not5 (sym is ∙ same))
-written answer status k w w' g g' (inr (inr (same, front))) is not5 not6 = absurd (not6 (sym is ∙ same))
+written : (answer : Answer) (status k : ℕ) (w w' : SinkSeen) → Writes answer status w w' → status ≡ k → k ≢ 5 → k ≢ 6
+    → (code_of answer.status ≡ k) × AppendsAll w w' answer.text
+written answer status k w w' (inl (same, appends)) is not5 not6 = (sym same ∙ is, appends)
+written answer status k w w' (inr (inl (same, rose, front))) is not5 not6 = absurd (not5 (sym is ∙ same))
+written answer status k w w' (inr (inr (same, front))) is not5 not6 = absurd (not6 (sym is ∙ same))
 
-appends_as : (a b : Finding) (w w' : Option (List ℕ)) → a ≡ b → Appends w w' a.answer.text → Appends w w' b.answer.text
+appends_as : (a b : Finding) (w w' : SinkSeen) → a ≡ b → AppendsAll w w' a.answer.text → AppendsAll w w' b.answer.text
 appends_as a b w w' same appends = rw (ap (λ (x : Finding). x.answer.text) same) at appends
 
 -- the clauses of a run that found this and wrote it
-exact : (words : List (List ℕ)) (named : Named) (b a : Seen) (finding : Finding) (status : ℕ) (w w' : Option (List ℕ)) (g g' : ℕ)
-    → finding ≡ told words named → Writes finding.answer status w w' g g' → ¬ Rose g g' → AnswersAsTold (Some named) words status finding.trace w w'
-exact words named b a finding status w w' g g' is (inl (same, appends)) quiet =
+exact : (words : List (List ℕ)) (named : Named) (b a : Seen) (finding : Finding) (status : ℕ) (w w' : SinkSeen)
+    → finding ≡ told words named → Writes finding.answer status w w' → ¬ Rose w.faults w'.faults → AnswersAsTold (Some named) words status finding.trace w w'
+exact words named b a finding status w w' is (inl (same, appends)) quiet =
     inr (same ∙ code_at finding (told words named) is, ap (λ (x : Finding). x.trace) is, appends_as finding (told words named) w w' is appends)
-exact words named b a finding status w w' g g' is (inr (inl (same, rose, front))) quiet = absurd (quiet rose)
-exact words named b a finding status w w' g g' is (inr (inr (same, front))) quiet = inl same
+exact words named b a finding status w w' is (inr (inl (same, rose, front))) quiet = absurd (quiet rose)
+exact words named b a finding status w w' is (inr (inr (same, front))) quiet = inl same
 
-pub as_told : (named : Option Named) (words : List (List ℕ)) (b a : Seen) (finding : Finding) (status : ℕ) (w w' : Option (List ℕ)) (g g' : ℕ)
-    → MayFind named (work_of words) b a finding → Writes finding.answer status w w' g g' → ¬ Rose b.faults a.faults → ¬ Rose g g'
+pub as_told : (named : Option Named) (words : List (List ℕ)) (b a : Seen) (finding : Finding) (status : ℕ) (w w' : SinkSeen)
+    → MayFind named (work_of words) b a finding → Writes finding.answer status w w' → ¬ Rose b.faults a.faults → ¬ Rose w.faults w'.faults
     → AnswersAsTold named words status finding.trace w w'
-as_told None words b a finding status w w' g g' found writes calm quiet = tt
-as_told (Some named) words b a finding status w w' g g' found writes calm quiet =
-    exact words named b a finding status w w' g g' (found_told named (work_of words) b a finding found calm) writes quiet
+as_told None words b a finding status w w' found writes calm quiet = tt
+as_told (Some named) words b a finding status w w' found writes calm quiet =
+    exact words named b a finding status w w' (found_told named (work_of words) b a finding found calm) writes quiet
 
-pub judged_run : (named : Option Named) (w0 : Work) (b a : Seen) (finding : Finding) (status k : ℕ) (w w' : Option (List ℕ)) (g g' : ℕ)
-    → MayFind named w0 b a finding → Writes finding.answer status w w' g g' → status ≡ k → k ≢ 4 → k ≢ 5 → k ≢ 6 → k ≢ 7
+pub judged_run : (named : Option Named) (w0 : Work) (b a : Seen) (finding : Finding) (status k : ℕ) (w w' : SinkSeen)
+    → MayFind named w0 b a finding → Writes finding.answer status w w' → status ≡ k → k ≢ 4 → k ≢ 5 → k ≢ 6 → k ≢ 7
     → Judges w0 named k finding.trace w w'
-judged_run named w0 b a finding status k w w' g g' (inl (readings, comes, took)) writes is not4 not5 not6 not7 =
-    let (code, appends) = written finding.answer status k w w' g g' writes is not5 not6 in
+judged_run named w0 b a finding status k w w' (inl (readings, comes, took)) writes is not4 not5 not6 not7 =
+    let (code, appends) = written finding.answer status k w w' writes is not5 not6 in
     (finding, readings, comes, code, refl, appends)
-judged_run named w0 b a finding status k w w' g g' (inr (work, m, comes, ends)) writes is not4 not5 not6 not7 =
-    let (code, appends) = written finding.answer status k w w' g g' writes is not5 not6 in
+judged_run named w0 b a finding status k w w' (inr (work, m, comes, ends)) writes is not4 not5 not6 not7 =
+    let (code, appends) = written finding.answer status k w w' writes is not5 not6 in
     absurd (not_decided named work m a finding k ends code not4 not7)
 
-usage_end : (form : Option Form) (finding : Finding) (w w' : Option (List ℕ)) → ((form ≡ None) × (finding ≡ bare usage)) ⊎ IsEnd finding
-    → code_of finding.answer.status ≡ 2 → Appends w w' finding.answer.text → IsUsage form w w'
-usage_end form finding w w' (inl (none, is)) code appends = (none, appends_as finding (bare usage) w w' is appends)
-usage_end form finding w w' (inr end) code appends = absurd (end.not2 code)
+usage_end : (command : Option Command) (finding : Finding) (w w' : SinkSeen) → ((command ≡ None) × (finding ≡ bare usage)) ⊎ IsEnd finding
+    → code_of finding.answer.status ≡ 2 → AppendsAll w w' finding.answer.text → IsUsage command w w'
+usage_end command finding w w' (inl (none, is)) code appends = (none, appends_as finding (bare usage) w w' is appends)
+usage_end command finding w w' (inr end) code appends = absurd (end.not2 code)
 
-pub usage_run : (named : Option Named) (words : List (List ℕ)) (b a : Seen) (finding : Finding) (status : ℕ) (w w' : Option (List ℕ)) (g g' : ℕ)
-    → MayFind named (work_of words) b a finding → Writes finding.answer status w w' g g' → status ≡ 2 → IsUsage (form_of words) w w'
-usage_run named words b a finding status w w' g g' (inl (readings, comes, took)) writes is =
-    let (code, appends) = written finding.answer status 2 w w' g g' writes is (omega arith) (omega arith) in
-    usage_end (form_of words) finding w w' (coming_end (form_of words) words named readings finding comes) code appends
-usage_run named words b a finding status w w' g g' (inr (work, m, comes, ends)) writes is =
-    let (code, appends) = written finding.answer status 2 w w' g g' writes is (omega arith) (omega arith) in
+pub usage_run : (named : Option Named) (words : List (List ℕ)) (b a : Seen) (finding : Finding) (status : ℕ) (w w' : SinkSeen)
+    → MayFind named (work_of words) b a finding → Writes finding.answer status w w' → status ≡ 2 → IsUsage (command_of words) w w'
+usage_run named words b a finding status w w' (inl (readings, comes, took)) writes is =
+    let (code, appends) = written finding.answer status 2 w w' writes is (omega arith) (omega arith) in
+    usage_end (command_of words) finding w w' (coming_end (command_of words) words named readings finding comes) code appends
+usage_run named words b a finding status w w' (inr (work, m, comes, ends)) writes is =
+    let (code, appends) = written finding.answer status 2 w w' writes is (omega arith) (omega arith) in
     absurd (not_decided named work m a finding 2 ends code (omega arith) (omega arith))
 
 -- an end with a status that only a reading, a write or want of memory gives
-no_end : (form : Option Form) (finding : Finding) (k : ℕ) → ((form ≡ None) × (finding ≡ bare usage)) ⊎ IsEnd finding
+no_end : (command : Option Command) (finding : Finding) (k : ℕ) → ((command ≡ None) × (finding ≡ bare usage)) ⊎ IsEnd finding
     → code_of finding.answer.status ≡ k → (k ≡ 4) ⊎ (k ≡ 5) → ⊥
-no_end form finding k (inl (none, is)) code (inl four) = omega (arith, code_at finding (bare usage) is, code, four)
-no_end form finding k (inl (none, is)) code (inr five) = omega (arith, code_at finding (bare usage) is, code, five)
-no_end form finding k (inr end) code (inl four) = end.not4 (code ∙ four)
-no_end form finding k (inr end) code (inr five) = end.not5 (code ∙ five)
+no_end command finding k (inl (none, is)) code (inl four) = omega (arith, code_at finding (bare usage) is, code, four)
+no_end command finding k (inl (none, is)) code (inr five) = omega (arith, code_at finding (bare usage) is, code, five)
+no_end command finding k (inr end) code (inl four) = end.not4 (code ∙ four)
+no_end command finding k (inr end) code (inr five) = end.not5 (code ∙ five)
 
 cause_within : (b m a : Seen) (Missing : Type 0) → b.faults ≤ m.faults → Rose m.faults a.faults ⊎ Missing → Rose b.faults a.faults ⊎ Missing
 cause_within b m a Missing low (inl rose) = inl (rose_within b.faults m.faults a.faults low rose)
 cause_within b m a Missing low (inr missing) = inr missing
 
-unread_end : (named : Option Named) (w0 work : Work) (b m a : Seen) (finding : Finding) (w w' : Option (List ℕ))
-    → ComesTo named w0 b work m → EndsAt named work m a finding → code_of finding.answer.status ≡ 4 → Appends w w' finding.answer.text → IsUnread w0 named b a w w'
+unread_end : (named : Option Named) (w0 work : Work) (b m a : Seen) (finding : Finding) (w w' : SinkSeen)
+    → ComesTo named w0 b work m → EndsAt named work m a finding → code_of finding.answer.status ≡ 4 → AppendsAll w w' finding.answer.text → IsUnread w0 named b a w w'
 unread_end named w0 (Finds it) b m a finding w w' comes ends code appends = absurd ends
 unread_end named w0 (Reads limit name next) b m a finding w w' comes (Whole bytes, read, decides) code appends = absurd decides
 unread_end named w0 (Reads limit name next) b m a finding w w' (readings, comes, took) (Unread, read, decides) code appends =
@@ -326,17 +327,17 @@ unread_end named w0 (Reads limit name next) b m a finding w w' (readings, comes,
 unread_end named w0 (Reads limit name next) b m a finding w w' comes (Long, read, decides) code appends =
     absurd (omega (arith, code_at finding (bare (long name)) decides, code))
 
-pub unread_run : (named : Option Named) (words : List (List ℕ)) (b a : Seen) (finding : Finding) (status : ℕ) (w w' : Option (List ℕ)) (g g' : ℕ)
-    → MayFind named (work_of words) b a finding → Writes finding.answer status w w' g g' → status ≡ 4 → IsUnread (work_of words) named b a w w'
-unread_run named words b a finding status w w' g g' (inl (readings, comes, took)) writes is =
-    let (code, appends) = written finding.answer status 4 w w' g g' writes is (omega arith) (omega arith) in
-    absurd (no_end (form_of words) finding 4 (coming_end (form_of words) words named readings finding comes) code (inl refl))
-unread_run named words b a finding status w w' g g' (inr (work, m, comes, ends)) writes is =
-    let (code, appends) = written finding.answer status 4 w w' g g' writes is (omega arith) (omega arith) in
+pub unread_run : (named : Option Named) (words : List (List ℕ)) (b a : Seen) (finding : Finding) (status : ℕ) (w w' : SinkSeen)
+    → MayFind named (work_of words) b a finding → Writes finding.answer status w w' → status ≡ 4 → IsUnread (work_of words) named b a w w'
+unread_run named words b a finding status w w' (inl (readings, comes, took)) writes is =
+    let (code, appends) = written finding.answer status 4 w w' writes is (omega arith) (omega arith) in
+    absurd (no_end (command_of words) finding 4 (coming_end (command_of words) words named readings finding comes) code (inl refl))
+unread_run named words b a finding status w w' (inr (work, m, comes, ends)) writes is =
+    let (code, appends) = written finding.answer status 4 w w' writes is (omega arith) (omega arith) in
     unread_end named (work_of words) work b m a finding w w' comes ends code appends
 
-long_end : (named : Option Named) (w0 work : Work) (b m a : Seen) (finding : Finding) (w w' : Option (List ℕ))
-    → ComesTo named w0 b work m → EndsAt named work m a finding → code_of finding.answer.status ≡ 7 → Appends w w' finding.answer.text → IsLongOne w0 named b a w w'
+long_end : (named : Option Named) (w0 work : Work) (b m a : Seen) (finding : Finding) (w w' : SinkSeen)
+    → ComesTo named w0 b work m → EndsAt named work m a finding → code_of finding.answer.status ≡ 7 → AppendsAll w w' finding.answer.text → IsLongOne w0 named b a w w'
 long_end named w0 (Finds it) b m a finding w w' comes ends code appends = absurd ends
 long_end named w0 (Reads limit name next) b m a finding w w' comes (Whole bytes, read, decides) code appends = absurd decides
 long_end named w0 (Reads limit name next) b m a finding w w' comes (Unread, read, decides) code appends =
@@ -352,53 +353,53 @@ long_end named w0 (Reads limit name next) b m a finding w w' (readings, comes, t
   appends_as finding (bare (long name)) w w' decides appends,
 )
 
-pub long_run : (named : Option Named) (words : List (List ℕ)) (b a : Seen) (finding : Finding) (status : ℕ) (w w' : Option (List ℕ)) (g g' : ℕ)
-    → MayFind named (work_of words) b a finding → Writes finding.answer status w w' g g' → status ≡ 7 → IsLong (work_of words) named b a finding.trace w w'
-long_run named words b a finding status w w' g g' (inl (readings, comes, took)) writes is =
-    let (code, appends) = written finding.answer status 7 w w' g g' writes is (omega arith) (omega arith) in
+pub long_run : (named : Option Named) (words : List (List ℕ)) (b a : Seen) (finding : Finding) (status : ℕ) (w w' : SinkSeen)
+    → MayFind named (work_of words) b a finding → Writes finding.answer status w w' → status ≡ 7 → IsLong (work_of words) named b a finding.trace w w'
+long_run named words b a finding status w w' (inl (readings, comes, took)) writes is =
+    let (code, appends) = written finding.answer status 7 w w' writes is (omega arith) (omega arith) in
     inr (
       (finding, readings, comes, code, refl, appends),
-      rose_less (MAX_NAMED_BYTES + 1) (sum_by length readings) b.taken a.taken (omega (arith, sum_of 0 named readings (work_of words) finding comes (form_sums (form_of words) words) code)) took.taken,
+      rose_less (MAX_NAMED_BYTES + 1) (sum_by length readings) b.taken a.taken (omega (arith, sum_of 0 named readings (work_of words) finding comes (command_sums (command_of words) words) code)) took.taken,
     )
-long_run named words b a finding status w w' g g' (inr (work, m, comes, ends)) writes is =
-    let (code, appends) = written finding.answer status 7 w w' g g' writes is (omega arith) (omega arith) in
+long_run named words b a finding status w w' (inr (work, m, comes, ends)) writes is =
+    let (code, appends) = written finding.answer status 7 w w' writes is (omega arith) (omega arith) in
     inl (long_end named (work_of words) work b m a finding w w' comes ends code appends)
 
-pub unwritten_run : (named : Option Named) (words : List (List ℕ)) (b a : Seen) (finding : Finding) (status : ℕ) (w w' : Option (List ℕ)) (g g' : ℕ)
-    → MayFind named (work_of words) b a finding → Writes finding.answer status w w' g g' → status ≡ 5 → Rose g g'
-unwritten_run named words b a finding status w w' g g' (inl (readings, comes, took)) (inl (same, appends)) is =
-    absurd (no_end (form_of words) finding 5 (coming_end (form_of words) words named readings finding comes) (sym same ∙ is) (inr refl))
-unwritten_run named words b a finding status w w' g g' (inr (work, m, comes, ends)) (inl (same, appends)) is =
+pub unwritten_run : (named : Option Named) (words : List (List ℕ)) (b a : Seen) (finding : Finding) (status : ℕ) (w w' : SinkSeen)
+    → MayFind named (work_of words) b a finding → Writes finding.answer status w w' → status ≡ 5 → Rose w.faults w'.faults
+unwritten_run named words b a finding status w w' (inl (readings, comes, took)) (inl (same, appends)) is =
+    absurd (no_end (command_of words) finding 5 (coming_end (command_of words) words named readings finding comes) (sym same ∙ is) (inr refl))
+unwritten_run named words b a finding status w w' (inr (work, m, comes, ends)) (inl (same, appends)) is =
     absurd (not_decided named work m a finding 5 ends (sym same ∙ is) (omega arith) (omega arith))
-unwritten_run named words b a finding status w w' g g' found (inr (inl (same, rose, front))) is = rose
-unwritten_run named words b a finding status w w' g g' found (inr (inr (same, front))) is = absurd (omega (arith, same, is))
+unwritten_run named words b a finding status w w' found (inr (inl (same, rose, front))) is = rose
+unwritten_run named words b a finding status w w' found (inr (inr (same, front))) is = absurd (omega (arith, same, is))
 
-pub small_run : (finding : Finding) (status : ℕ) (w w' : Option (List ℕ)) (g g' : ℕ) → Writes finding.answer status w w' g g' → status ≤ 8
-small_run finding status w w' g g' (inl (same, appends)) = omega (arith, same, code_small finding.answer.status)
-small_run finding status w w' g g' (inr (inl (same, rose, front))) = omega (arith, same)
-small_run finding status w w' g g' (inr (inr (same, front))) = omega (arith, same)
+pub small_run : (finding : Finding) (status : ℕ) (w w' : SinkSeen) → Writes finding.answer status w w' → status ≤ 8
+small_run finding status w w' (inl (same, appends)) = omega (arith, same, code_small finding.answer.status)
+small_run finding status w w' (inr (inl (same, rose, front))) = omega (arith, same)
+small_run finding status w w' (inr (inr (same, front))) = omega (arith, same)
 
 -- a trace is empty but for work that was done
-traced_end : (form : Option Form) (finding : Finding) → ((form ≡ None) × (finding ≡ bare usage)) ⊎ IsEnd finding → (finding.trace ≡ []) ⊎ (code_of finding.answer.status ≡ 0)
-traced_end form finding (inl (none, is)) = inl (ap (λ (x : Finding). x.trace) is)
-traced_end form finding (inr end) = end.traced
+traced_end : (command : Option Command) (finding : Finding) → ((command ≡ None) × (finding ≡ bare usage)) ⊎ IsEnd finding → (finding.trace ≡ []) ⊎ (code_of finding.answer.status ≡ 0)
+traced_end command finding (inl (none, is)) = inl (ap (λ (x : Finding). x.trace) is)
+traced_end command finding (inr end) = end.traced
 
 traced : (named : Option Named) (words : List (List ℕ)) (b a : Seen) (finding : Finding) → MayFind named (work_of words) b a finding
     → (finding.trace ≡ []) ⊎ (code_of finding.answer.status ≡ 0)
-traced named words b a finding (inl (readings, comes, took)) = traced_end (form_of words) finding (coming_end (form_of words) words named readings finding comes)
+traced named words b a finding (inl (readings, comes, took)) = traced_end (command_of words) finding (coming_end (command_of words) words named readings finding comes)
 traced named words b a finding (inr (work, m, comes, ends)) = inl (decided named work m a finding ends).1
 
-pub found_run : (named : Option Named) (words : List (List ℕ)) (b a : Seen) (finding : Finding) (status : ℕ) (w w' : Option (List ℕ)) (g g' : ℕ)
-    → MayFind named (work_of words) b a finding → Writes finding.answer status w w' g g' → EndsBy (work_of words) named b a status finding.trace w w' g g'
-found_run named words b a finding status w w' g g' found writes = inl (finding, found, writes, refl, traced named words b a finding found)
+pub found_run : (named : Option Named) (words : List (List ℕ)) (b a : Seen) (finding : Finding) (status : ℕ) (w w' : SinkSeen)
+    → MayFind named (work_of words) b a finding → Writes finding.answer status w w' → EndsBy (work_of words) named b a status finding.trace w w'
+found_run named words b a finding status w w' found writes = inl (finding, found, writes, refl, traced named words b a finding found)
 
-bare_by : (finding : Finding) (status : ℕ) (w w' : Option (List ℕ)) (g g' : ℕ) → (finding.trace ≡ []) ⊎ (code_of finding.answer.status ≡ 0)
-    → Writes finding.answer status w w' g g' → (finding.trace ≡ []) ⊎ ((status ≡ 0) ⊎ ((status ≡ 5) ⊎ (status ≡ 6)))
-bare_by finding status w w' g g' (inl none) writes = inl none
-bare_by finding status w w' g g' (inr zero_code) (inl (same, appends)) = inr (inl (same ∙ zero_code))
-bare_by finding status w w' g g' (inr zero_code) (inr (inl (same, rose, front))) = inr (inr (inl same))
-bare_by finding status w w' g g' (inr zero_code) (inr (inr (same, front))) = inr (inr (inr same))
+bare_by : (finding : Finding) (status : ℕ) (w w' : SinkSeen) → (finding.trace ≡ []) ⊎ (code_of finding.answer.status ≡ 0)
+    → Writes finding.answer status w w' → (finding.trace ≡ []) ⊎ ((status ≡ 0) ⊎ ((status ≡ 5) ⊎ (status ≡ 6)))
+bare_by finding status w w' (inl none) writes = inl none
+bare_by finding status w w' (inr zero_code) (inl (same, appends)) = inr (inl (same ∙ zero_code))
+bare_by finding status w w' (inr zero_code) (inr (inl (same, rose, front))) = inr (inr (inl same))
+bare_by finding status w w' (inr zero_code) (inr (inr (same, front))) = inr (inr (inr same))
 
-pub bare_run : (named : Option Named) (words : List (List ℕ)) (b a : Seen) (finding : Finding) (status : ℕ) (w w' : Option (List ℕ)) (g g' : ℕ)
-    → MayFind named (work_of words) b a finding → Writes finding.answer status w w' g g' → (finding.trace ≡ []) ⊎ ((status ≡ 0) ⊎ ((status ≡ 5) ⊎ (status ≡ 6)))
-bare_run named words b a finding status w w' g g' found writes = bare_by finding status w w' g g' (traced named words b a finding found) writes
+pub bare_run : (named : Option Named) (words : List (List ℕ)) (b a : Seen) (finding : Finding) (status : ℕ) (w w' : SinkSeen)
+    → MayFind named (work_of words) b a finding → Writes finding.answer status w w' → (finding.trace ≡ []) ⊎ ((status ≡ 0) ⊎ ((status ≡ 5) ⊎ (status ≡ 6)))
+bare_run named words b a finding status w w' found writes = bare_by finding status w w' (traced named words b a finding found) writes

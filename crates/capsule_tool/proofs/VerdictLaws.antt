@@ -15,10 +15,10 @@ use Rattle.capsule_grammar.specs.declared.refusal.Refusal.{Refusal}
 use Rattle.capsule_grammar.specs.declared.refusal.Why.{Why}
 use Rattle.capsule_grammar.proofs.FrontLemmas.{number_least}
 use Rattle.capsule_grammar.proofs.Tables.{first-none}
-use Rattle.capsule_tool.specs.Check.{verdict_by, verdict_of}
+use Rattle.capsule_tool.specs.Verdicts.{verdict_by, verdict_of}
 use Rattle.capsule_tool.specs.Scans.{TellsFile, IsCutFile, IsFound}
-use Rattle.capsule_tool.specs.declared.check.Verdict.{Verdict}
-use Rattle.capsule_tool.specs.declared.check.Verdict.TheVariants.{Whole, Trailing}
+use Rattle.capsule_tool.specs.declared.verdict.Verdict.{Verdict}
+use Rattle.capsule_tool.specs.declared.verdict.Verdict.TheVariants.{Whole, Trailing}
 
 -- the first bytes that are at hand
 pub front_begins : (head file : List ℕ) (size there : ℕ) (found : Result (Unit {0}) Refusal) → length head ≡ 28 → there ≡ min size 28 → IsFound head size found file

@@ -5,13 +5,13 @@ use Rattle.capsule_grammar.specs.Reading.{capsule_of}
 use Rattle.capsule_grammar.specs.Rebuilt.{emptied}
 use Rattle.capsule_grammar.specs.Spelling.{spelling}
 use Rattle.capsule_tool.specs.Answers.{done, refused}
-use Rattle.capsule_tool.specs.Check.{verdict_of, name_of}
+use Rattle.capsule_tool.specs.Verdicts.{verdict_of, name_of}
 use Rattle.capsule_tool.specs.Findings.{bare}
 use Rattle.capsule_tool.specs.Works.{Work}
 use Rattle.capsule_tool.specs.Works.Work.{Finds, Reads}
 use Rattle.capsule_tool.specs.declared.answer.Answer.{Answer}
-use Rattle.capsule_tool.specs.declared.check.Verdict.{Verdict}
-use Rattle.capsule_tool.specs.declared.check.Verdict.TheVariants.{Whole as WholeCapsule, Refused, Trailing}
+use Rattle.capsule_tool.specs.declared.verdict.Verdict.{Verdict}
+use Rattle.capsule_tool.specs.declared.verdict.Verdict.TheVariants.{Whole as WholeCapsule, Refused, Trailing}
 use Rattle.capsule_tool.specs.declared.status.Status.TheVariants.{Done}
 
 -- the capsule that is the whole file, without its lead and its pads

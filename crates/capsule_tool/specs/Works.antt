@@ -5,9 +5,9 @@ use Rattle.cu_base.specs.Causes.{RoseBy}
 use Rattle.cu_io.specs.Named.{Named, bytes_named}
 use Rattle.capsule_tool.specs.Answers.{unread, long}
 use Rattle.capsule_tool.specs.Findings.{Finding, bare}
-use Rattle.capsule_tool.specs.Readings.{Seen, MayHold, WasRead, reading_of}
-use Rattle.capsule_tool.specs.declared.input.Reading.{Reading}
-use Rattle.capsule_tool.specs.declared.input.Reading.TheVariants.{Whole, Unread, Long}
+use Rattle.cu_io.specs.Seen.{Seen}
+use Rattle.capsule_tool.specs.Readings.{Reading, MayHold, WasRead, reading_of}
+use Rattle.capsule_tool.specs.Readings.Reading.{Whole, Unread, Long}
 
 -- this is found; or an input is read up to a limit, and its bytes say what is done next
 pub data Work : Type 0 where
@@ -15,7 +15,7 @@ pub data Work : Type 0 where
   Reads : (limit : ℕ) → (name : List ℕ) → (next : List ℕ → Work) → Work
 
 -- what comes of a reading: the first one that does not give all bytes decides
-abbrev pub by_reading : List ℕ → (List ℕ → Finding) → Reading (List ℕ) → Finding
+abbrev pub by_reading : List ℕ → (List ℕ → Finding) → Reading → Finding
 by_reading name next (Whole bytes) = next bytes
 by_reading name next Unread = bare (unread name)
 by_reading name next Long = bare (long name)
@@ -55,7 +55,7 @@ ComesTo named work before work' after =
     (readings : List (List ℕ)) × Comes named readings work work' × Took (names_by readings work) readings before after
 
 -- a reading that does not give all bytes decides
-abbrev pub Decides : List ℕ → Reading (List ℕ) → Finding → Type 0
+abbrev pub Decides : List ℕ → Reading → Finding → Type 0
 Decides name (Whole bytes) finding = ⊥
 Decides name Unread finding = finding ≡ bare (unread name)
 Decides name Long finding = finding ≡ bare (long name)
@@ -64,7 +64,7 @@ Decides name Long finding = finding ≡ bare (long name)
 abbrev pub EndsAt : Option Named → Work → Seen → Seen → Finding → Type 0
 EndsAt named (Finds it) before after finding = ⊥
 EndsAt named (Reads limit name next) before after finding =
-    (reading : Reading (List ℕ)) × WasRead named limit name before after reading × Decides name reading finding
+    (reading : Reading) × WasRead named limit name before after reading × Decides name reading finding
 
 -- what a work may find, whatever happens outside: what it comes to, or what the reading of an input decides
 abbrev pub MayFind : Option Named → Work → Seen → Seen → Finding → Type 0

@@ -5,13 +5,13 @@ ghost use Rattle.std.specs.Io.KnownBytes.{IsAtEnd};
 ghost use Rattle.cu_base.specs.Causes.{HasCauseOf};
 ghost use Rattle.cu_io.specs.Streams.{Goes, Passes};
 ghost use Rattle.capsule_grammar.specs.Refusals.{fmp_rows};
-ghost use Rattle.capsule_tool.specs.Check.{verdict_of};
+ghost use Rattle.capsule_tool.specs.Verdicts.{verdict_of};
 ghost use Rattle.capsule_tool.specs.Scans.{Scans, ScansFile, IsFound};
 
 mod body;
 mod stop;
 
-use crate::check::Verdict;
+use crate::verdict::Verdict;
 use body::scan_body;
 use capsule_grammar::{Refusal, check_capsule_header, is_fmp_guid};
 use cu_base::MAX_CAPSULE_BYTES;

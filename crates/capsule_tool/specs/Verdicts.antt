@@ -5,8 +5,8 @@ use Rattle.fmp_headers.specs.CapsuleHeader.{image_size}
 use Rattle.capsule_grammar.specs.Refusals.{refusal}
 use Rattle.capsule_grammar.specs.declared.refusal.Why.{Why}
 use Rattle.capsule_grammar.specs.declared.refusal.Why.TheVariants.{Short, BadHeaderSize, BadImageSize, BadFmpVersion, BadImageVersion, OffsetsOutside, OffsetsNotRising, ImageOutside, TooManyCapsules}
-use Rattle.capsule_tool.specs.declared.check.Verdict.{Verdict}
-use Rattle.capsule_tool.specs.declared.check.Verdict.TheVariants.{Whole, Refused, Trailing}
+use Rattle.capsule_tool.specs.declared.verdict.Verdict.{Verdict}
+use Rattle.capsule_tool.specs.declared.verdict.Verdict.TheVariants.{Whole, Refused, Trailing}
 
 -- the printed name of a cause
 abbrev pub name_of : Why → List ℕ

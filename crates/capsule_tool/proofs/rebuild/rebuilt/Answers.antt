@@ -6,7 +6,7 @@ use Rattle.capsule_grammar.specs.Rebuilt.{emptied}
 use Rattle.capsule_grammar.specs.Spelling.{spelling}
 use Rattle.capsule_tool.specs.declared.answer.Answer.{Answer}
 use Rattle.capsule_tool.specs.declared.status.Status.TheVariants.{Done}
-use Rattle.capsule_tool.proofs.file.rebuilt.Goals as goal
+use Rattle.capsule_tool.proofs.rebuild.rebuilt.Goals as goal
 
 abbrev done_with : List ℕ → Answer
 done_with text = record { status = Done; text = text }

@@ -1,9 +1,28 @@
-//! The names of the faults of boards and scripts.
+//! The names of the causes of refusals, as they are printed.
 ghost use Rattle.std.specs.Prelude.{◌≡◌};
-ghost use Rattle.capsule_tool.specs.Kinds.{board_kind, script_kind};
+ghost use Rattle.capsule_tool.specs.Verdicts.{name_of};
+ghost use Rattle.capsule_tool.specs.Names.{board_kind, script_kind};
 
+use capsule_grammar::Why;
 use recipe_files::BadKind;
 use reset_play::ScriptKind;
+
+/// The name of a cause for which a capsule is refused.
+pub fn why_name(why: Why) -> &'static str
+    ensures { result.now ≡ name_of why }
+{
+    match why {
+        Why::Short => "Short",
+        Why::BadHeaderSize => "BadHeaderSize",
+        Why::BadImageSize => "BadImageSize",
+        Why::BadFmpVersion => "BadFmpVersion",
+        Why::BadImageVersion => "BadImageVersion",
+        Why::OffsetsOutside => "OffsetsOutside",
+        Why::OffsetsNotRising => "OffsetsNotRising",
+        Why::ImageOutside => "ImageOutside",
+        Why::TooManyCapsules => "TooManyCapsules",
+    }
+}
 
 /// The name of a board's fault as it is printed.
 pub fn board_kind(kind: BadKind) -> &'static str

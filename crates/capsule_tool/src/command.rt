@@ -1,13 +1,13 @@
 ghost use Rattle.std.specs.Prelude.{◌≡◌};
 ghost use Rattle.std.specs.Char.{is_ascii_digit};
 ghost use Rattle.std.specs.List.{list_all};
-ghost use Rattle.capsule_tool.specs.Forms.{form_of, form_of_one, is_load_count};
+ghost use Rattle.capsule_tool.specs.Commands.{command_of, command_of_one, is_load_count};
 
 use cu_base::Text;
 
-/// What the words ask for.
+/// What the words ask for: UEFI capsule files are checked, shown, rebuilt, made or played.
 #[derive(Clone, Copy, Debug, PartialEq, Eq)]
-pub enum Form {
+pub enum Command {
     /// `check FILE`
     Check,
     /// `show FILE`
@@ -22,15 +22,15 @@ pub enum Form {
     Load,
 }
 
-/// The form of the words. None exactly where they have none of the six.
-pub fn form_of_words(words: &[Text]) -> Option<Form>
-    ensures { result ≡ form_of words.now }
+/// The command of the words. None exactly where they are none of the six.
+pub fn command_of(words: &[Text]) -> Option<Command>
+    ensures { result ≡ command_of words.now }
 {
     match words {
-        [command, operand] => form_of_operand(command.as_str(), operand.as_str()),
+        [command, operand] => command_on(command.as_str(), operand.as_str()),
         [command, _, _] => {
             if command.as_str() == "play" {
-                Some(Form::Play)
+                Some(Command::Play)
             } else {
                 None
             }
@@ -39,19 +39,20 @@ pub fn form_of_words(words: &[Text]) -> Option<Form>
     }
 }
 
-fn form_of_operand(command: &str, operand: &str) -> Option<Form>
-    ensures { result ≡ form_of_one command.now operand.now }
+/// The command of two words.
+fn command_on(command: &str, operand: &str) -> Option<Command>
+    ensures { result ≡ command_of_one command.now operand.now }
 {
     if command == "check" {
-        Some(Form::Check)
+        Some(Command::Check)
     } else if command == "show" {
-        Some(Form::Show)
+        Some(Command::Show)
     } else if command == "rebuild" {
-        Some(Form::Rebuild)
+        Some(Command::Rebuild)
     } else if command == "make" {
-        Some(Form::Make)
+        Some(Command::Make)
     } else if command == "load" && is_count(operand) {
-        Some(Form::Load)
+        Some(Command::Load)
     } else {
         None
     }
@@ -70,6 +71,7 @@ fn is_count(text: &str) -> bool
     }
 }
 
+/// Whether each byte is a decimal digit.
 fn are_digits(text: &[u8]) -> bool
     ensures { result ≡ list_all is_ascii_digit text.now }
 {
