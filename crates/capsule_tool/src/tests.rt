@@ -131,6 +131,38 @@ fn check<'a>(name: &'a str, pieces: &'a [&'a [u8]], status: u8, text: &'a str) -
     }
 }
 
+/// A rebuild of `a.cap` where no call fails.
+fn rebuild<'a>(name: &'a str, pieces: &'a [&'a [u8]], status: u8, text: &'a [u8]) -> Case<'a> {
+    Case {
+        name,
+        words: &["rebuild", "a.cap"],
+        pieces,
+        faults: CALM,
+        status,
+        text,
+    }
+}
+
+/// These words over a capsule of 32 bytes, where the calls of these numbers fail.
+fn failing<'a>(
+    name: &'a str,
+    words: &'a [&'a str],
+    open: &'a [u64],
+    read: &'a [u64],
+    write: &'a [u64],
+    status: u8,
+    text: &'a str,
+) -> Case<'a> {
+    Case {
+        name,
+        words,
+        pieces: &[&GUID, &REST],
+        faults: Faults { open, read, write },
+        status,
+        text: text.as_bytes(),
+    }
+}
+
 /// Runs these words where no call fails and `a.cap` is empty.
 fn words<'a>(words: &'a [&'a str], status: u8, text: &'a str) -> Case<'a> {
     Case {
@@ -143,19 +175,17 @@ fn words<'a>(words: &'a [&'a str], status: u8, text: &'a str) -> Case<'a> {
     }
 }
 
-/// Runs each case, and compares status and what was written.
-fn expect(rt: &(impl Abort + AllocGlobal), cases: &[Case<'_>]) -> Result<(), NoMemory> {
+/// Runs a case, and compares status and what was written.
+fn expect(rt: &(impl Abort + AllocGlobal), case: &Case<'_>) -> Result<(), NoMemory> {
     let alloc = rt.alloc();
-    for case in cases {
-        let open_fails = Numbers::from_slice(alloc, case.faults.open)?;
-        let read_fails = Numbers::from_slice(alloc, case.faults.read)?;
-        let mut inputs = MemInputs::new(alloc, open_fails, read_fails);
-        inputs.add(Text::from_str(alloc, "a.cap")?, joined(alloc, case.pieces)?)?;
-        let mut out = MemSink::new(alloc, Numbers::from_slice(alloc, case.faults.write)?);
-        let outcome = run_words(alloc, case.words, &mut inputs, &mut out)?;
-        let same = outcome.status == case.status && out.as_slice() == case.text;
-        assert!(rt; same, "{}", case.name);
-    }
+    let open_fails = Numbers::from_slice(alloc, case.faults.open)?;
+    let read_fails = Numbers::from_slice(alloc, case.faults.read)?;
+    let mut inputs = MemInputs::new(alloc, open_fails, read_fails);
+    inputs.add(Text::from_str(alloc, "a.cap")?, joined(alloc, case.pieces)?)?;
+    let mut out = MemSink::new(alloc, Numbers::from_slice(alloc, case.faults.write)?);
+    let outcome = run_words(alloc, case.words, &mut inputs, &mut out)?;
+    let same = outcome.status == case.status && out.as_slice() == case.text;
+    assert!(rt; same, "{}", case.name);
     Ok(())
 }
 
@@ -166,45 +196,63 @@ fn checks_the_smallest_capsule(rt: HostRuntime) -> Result<(), Fail> {
     let below: [&[u8]; 3] = [&GUID, &[0x1b], &REST[1..]];
     let ext: [&[u8]; 3] = [&GUID, &[0x20], &REST[1..]];
     let above: [&[u8]; 3] = [&GUID, &[0x21], &REST[1..]];
-    let cases = [
-        check("whole", &[&GUID, &REST], 0, "ok 32\n"),
-        check("empty", &[], 1, "refused 0 Short\n"),
-        check("27 bytes", &cut, 1, "refused 0 Short\n"),
-        check("31 bytes", &last, 1, "refused 24 BadImageSize\n"),
-        check(
+    expect(&rt, &check("whole", &[&GUID, &REST], 0, "ok 32\n"))?;
+    expect(&rt, &check("empty", &[], 1, "refused 0 Short\n"))?;
+    expect(&rt, &check("27 bytes", &cut, 1, "refused 0 Short\n"))?;
+    expect(
+        &rt,
+        &check("31 bytes", &last, 1, "refused 24 BadImageSize\n"),
+    )?;
+    expect(
+        &rt,
+        &check(
             "33 bytes",
             &[&GUID, &REST, &[0]],
             1,
             "refused 32 Trailing\n",
         ),
-        check("HeaderSize 27", &below, 1, "refused 16 BadHeaderSize\n"),
-        check("HeaderSize 32", &ext, 0, "ok 32\n"),
-        check("HeaderSize 33", &above, 1, "refused 16 BadHeaderSize\n"),
-    ];
-    expect(&rt, &cases)?;
+    )?;
+    expect(
+        &rt,
+        &check("HeaderSize 27", &below, 1, "refused 16 BadHeaderSize\n"),
+    )?;
+    expect(&rt, &check("HeaderSize 32", &ext, 0, "ok 32\n"))?;
+    expect(
+        &rt,
+        &check("HeaderSize 33", &above, 1, "refused 16 BadHeaderSize\n"),
+    )?;
     Ok(())
 }
 
 #[test]
 fn checks_the_offset_list(rt: HostRuntime) -> Result<(), Fail> {
     let equal: [&[u8]; 6] = [&FMP, &SIZES_28_84, &TWO_ITEMS, &AT_24, &AT_24, &[0; 32]];
-    let cases = [
-        check("no items", &[&FMP, &SIZES_28_36, &NO_ITEMS], 0, "ok 36\n"),
-        check(
+    expect(
+        &rt,
+        &check("no items", &[&FMP, &SIZES_28_36, &NO_ITEMS], 0, "ok 36\n"),
+    )?;
+    expect(
+        &rt,
+        &check(
             "behind an extended header",
             &[&FMP, &SIZES_32_40, &[0; 4], &NO_ITEMS],
             0,
             "ok 40\n",
         ),
-        check("equal offsets", &equal, 1, "refused 44 OffsetsNotRising\n"),
-        check(
+    )?;
+    expect(
+        &rt,
+        &check("equal offsets", &equal, 1, "refused 44 OffsetsNotRising\n"),
+    )?;
+    expect(
+        &rt,
+        &check(
             "a body of four bytes",
             &[&FMP, &REST],
             1,
             "refused 28 Short\n",
         ),
-    ];
-    expect(&rt, &cases)?;
+    )?;
     Ok(())
 }
 
@@ -222,19 +270,22 @@ fn checks_one_image_of_each_version(rt: HostRuntime) -> Result<(), Fail> {
         &IMAGE_3_OF_ONE_BYTE,
         &[0; 16],
     ];
-    let cases = [
-        check("version 1", &first, 0, "ok 76\n"),
-        check("version 2", &second, 0, "ok 84\n"),
-        check("version 3", &third, 0, "ok 92\n"),
-        check("version 4", &fourth, 1, "refused 44 BadImageVersion\n"),
-        check(
+    expect(&rt, &check("version 1", &first, 0, "ok 76\n"))?;
+    expect(&rt, &check("version 2", &second, 0, "ok 84\n"))?;
+    expect(&rt, &check("version 3", &third, 0, "ok 92\n"))?;
+    expect(
+        &rt,
+        &check("version 4", &fourth, 1, "refused 44 BadImageVersion\n"),
+    )?;
+    expect(
+        &rt,
+        &check(
             "an image past the end",
             &outside,
             1,
             "refused 68 ImageOutside\n",
         ),
-    ];
-    expect(&rt, &cases)?;
+    )?;
     Ok(())
 }
 
@@ -253,37 +304,12 @@ fn rebuilds_without_a_lead_and_a_pad(rt: HostRuntime) -> Result<(), Fail> {
     let with_ext: [&[u8]; 3] = [&GUID, &[0x20], &REST[1..]];
     let rebuilt = joined(rt.alloc(), &plain)?;
     let kept = joined(rt.alloc(), &with_ext)?;
-    let case = Case {
-        words: &["rebuild", "a.cap"],
-        ..check("nothing", &[], 1, "refused 0 Short\n")
-    };
-    let cases = [
-        check("with lead and pad", &padded, 0, "ok 81\n"),
-        Case {
-            name: "padded",
-            pieces: &padded,
-            status: 0,
-            text: rebuilt.as_slice(),
-            ..case
-        },
-        Case {
-            name: "plain",
-            pieces: &plain,
-            status: 0,
-            text: rebuilt.as_slice(),
-            ..case
-        },
-        Case {
-            name: "extended",
-            pieces: &with_ext,
-            status: 0,
-            text: kept.as_slice(),
-            ..case
-        },
-        case,
-        words(&["rebuild", "none"], 4, "unread none\n"),
-    ];
-    expect(&rt, &cases)?;
+    expect(&rt, &check("with lead and pad", &padded, 0, "ok 81\n"))?;
+    expect(&rt, &rebuild("padded", &padded, 0, rebuilt.as_slice()))?;
+    expect(&rt, &rebuild("plain", &plain, 0, rebuilt.as_slice()))?;
+    expect(&rt, &rebuild("extended", &with_ext, 0, kept.as_slice()))?;
+    expect(&rt, &rebuild("empty", &[], 1, b"refused 0 Short\n"))?;
+    expect(&rt, &words(&["rebuild", "none"], 4, "unread none\n"))?;
     Ok(())
 }
 
@@ -291,88 +317,74 @@ fn rebuilds_without_a_lead_and_a_pad(rt: HostRuntime) -> Result<(), Fail> {
 fn answers_words(rt: HostRuntime) -> Result<(), Fail> {
     let usage =
         "usage: check FILE | show FILE | rebuild FILE | make RECIPE | play BOARD SCRIPT | load N\n";
-    let cases = [
-        words(&["chek", "x"], 2, usage),
-        words(&[], 2, usage),
-        words(&["check"], 2, usage),
-        words(&["check", "a.cap", "b.cap"], 2, usage),
-        words(&["load", "0"], 2, usage),
-        words(&["load", "1001"], 2, usage),
-        words(&["load", "01"], 2, usage),
-        words(&["load", "+1"], 2, usage),
-        words(&["show", "a.cap"], 8, "later show\n"),
-        words(&["make", "a.toml"], 8, "later make\n"),
-        words(&["load", "1"], 8, "later load\n"),
-        words(&["load", "1000"], 8, "later load\n"),
-        words(&["check", "none"], 4, "unread none\n"),
-    ];
-    expect(&rt, &cases)?;
+    expect(&rt, &words(&["chek", "x"], 2, usage))?;
+    expect(&rt, &words(&[], 2, usage))?;
+    expect(&rt, &words(&["check"], 2, usage))?;
+    expect(&rt, &words(&["check", "a.cap", "b.cap"], 2, usage))?;
+    expect(&rt, &words(&["load", "0"], 2, usage))?;
+    expect(&rt, &words(&["load", "1001"], 2, usage))?;
+    expect(&rt, &words(&["load", "01"], 2, usage))?;
+    expect(&rt, &words(&["load", "+1"], 2, usage))?;
+    expect(&rt, &words(&["show", "a.cap"], 8, "later show\n"))?;
+    expect(&rt, &words(&["make", "a.toml"], 8, "later make\n"))?;
+    expect(&rt, &words(&["load", "1"], 8, "later load\n"))?;
+    expect(&rt, &words(&["load", "1000"], 8, "later load\n"))?;
+    expect(&rt, &words(&["check", "none"], 4, "unread none\n"))?;
     Ok(())
 }
 
 /// The reads of a capsule of 32 bytes: its header, the rest, and the end.
 #[test]
 fn answers_failing_calls(rt: HostRuntime) -> Result<(), Fail> {
-    let whole = check("fourth read", &[&GUID, &REST], 0, "ok 32\n");
-    let beyond = Case {
-        faults: Faults { read: &[4], ..CALM },
-        ..whole
-    };
-    let unread = Case {
-        status: 4,
-        text: b"unread a.cap\n",
-        ..whole
-    };
-    let unwritten = Case {
-        status: 5,
-        text: b"",
-        ..whole
-    };
-    let writing = Faults {
-        write: &[1],
-        ..CALM
-    };
-    let cases = [
-        beyond,
-        Case {
-            name: "open",
-            faults: Faults { open: &[1], ..CALM },
-            ..unread
-        },
-        Case {
-            name: "first read",
-            faults: Faults { read: &[1], ..CALM },
-            ..unread
-        },
-        Case {
-            name: "second read",
-            faults: Faults { read: &[2], ..CALM },
-            ..unread
-        },
-        Case {
-            name: "third read",
-            faults: Faults { read: &[3], ..CALM },
-            ..unread
-        },
-        Case {
-            name: "write",
-            faults: writing,
-            ..unwritten
-        },
-        Case {
-            name: "write of unread",
-            words: &["check", "none"],
-            faults: writing,
-            ..unwritten
-        },
-        Case {
-            name: "write of usage",
-            words: &["chek", "x"],
-            faults: writing,
-            ..unwritten
-        },
-    ];
-    expect(&rt, &cases)?;
+    let unread = "unread a.cap\n";
+    expect(
+        &rt,
+        &failing("open", &["check", "a.cap"], &[1], &[], &[], 4, unread),
+    )?;
+    expect(
+        &rt,
+        &failing("first read", &["check", "a.cap"], &[], &[1], &[], 4, unread),
+    )?;
+    expect(
+        &rt,
+        &failing(
+            "second read",
+            &["check", "a.cap"],
+            &[],
+            &[2],
+            &[],
+            4,
+            unread,
+        ),
+    )?;
+    expect(
+        &rt,
+        &failing("third read", &["check", "a.cap"], &[], &[3], &[], 4, unread),
+    )?;
+    expect(
+        &rt,
+        &failing(
+            "fourth read",
+            &["check", "a.cap"],
+            &[],
+            &[4],
+            &[],
+            0,
+            "ok 32\n",
+        ),
+    )?;
+    expect(
+        &rt,
+        &failing("write", &["check", "a.cap"], &[], &[], &[1], 5, ""),
+    )?;
+    expect(
+        &rt,
+        &failing("write of unread", &["check", "none"], &[], &[], &[1], 5, ""),
+    )?;
+    expect(
+        &rt,
+        &failing("write of usage", &["chek", "x"], &[], &[], &[1], 5, ""),
+    )?;
     Ok(())
 }
 
@@ -386,15 +398,15 @@ fn answers_a_long_file(rt: HostRuntime) -> Result<(), Fail> {
     }
     let largest: [&[u8]; 1] = [bytes.as_slice()];
     let long: [&[u8]; 2] = [bytes.as_slice(), &[0]];
-    let cases = [
-        check(
+    expect(
+        &rt,
+        &check(
             "of the most bytes",
             &largest,
             1,
             "refused 16 BadHeaderSize\n",
         ),
-        check("long", &long, 7, "long a.cap\n"),
-    ];
-    expect(&rt, &cases)?;
+    )?;
+    expect(&rt, &check("long", &long, 7, "long a.cap\n"))?;
     Ok(())
 }

@@ -21,13 +21,16 @@ const CUT: &str = "refused 24 BadImageSize\n";
 fn a_capsule_cut_in_a_header_is_refused_for_its_size(rt: HostRuntime) -> Result<(), Fail> {
     let image: [&[u8]; 5] = [&FMP, &SIZES_28_76, &ONE_ITEM, &AT_16, &IMAGE_1[..31]];
     let fmp: [&[u8]; 3] = [&FMP, &SIZES_28_84, &TWO_ITEMS[..7]];
-    let cases = [
-        check("extended header", &[&FMP, &SIZES_32_40, &[0; 2]], 1, CUT),
-        check("FMP header", &fmp, 1, CUT),
-        check("offsets", &[&FMP, &SIZES_28_84, &TWO_ITEMS, &AT_24], 1, CUT),
-        check("image header", &image, 1, CUT),
-    ];
-    expect(&rt, &cases)?;
+    expect(
+        &rt,
+        &check("extended header", &[&FMP, &SIZES_32_40, &[0; 2]], 1, CUT),
+    )?;
+    expect(&rt, &check("FMP header", &fmp, 1, CUT))?;
+    expect(
+        &rt,
+        &check("offsets", &[&FMP, &SIZES_28_84, &TWO_ITEMS, &AT_24], 1, CUT),
+    )?;
+    expect(&rt, &check("image header", &image, 1, CUT))?;
     Ok(())
 }
 
@@ -48,12 +51,12 @@ fn the_last_image_is_whole_cut_or_followed(rt: HostRuntime) -> Result<(), Fail> 
     let whole: [&[u8]; 2] = [most.as_slice(), &[7]];
     let cut: [&[u8]; 1] = [most.as_slice()];
     let followed: [&[u8]; 2] = [most.as_slice(), &[7, 7]];
-    let cases = [
-        check("whole", &whole, 0, "ok 117\n"),
-        check("cut", &cut, 1, CUT),
-        check("followed", &followed, 1, "refused 117 Trailing\n"),
-    ];
-    expect(&rt, &cases)?;
+    expect(&rt, &check("whole", &whole, 0, "ok 117\n"))?;
+    expect(&rt, &check("cut", &cut, 1, CUT))?;
+    expect(
+        &rt,
+        &check("followed", &followed, 1, "refused 117 Trailing\n"),
+    )?;
     Ok(())
 }
 
@@ -61,72 +64,64 @@ fn the_last_image_is_whole_cut_or_followed(rt: HostRuntime) -> Result<(), Fail> 
 fn the_size_is_refused_before_the_body(rt: HostRuntime) -> Result<(), Fail> {
     let cut_offsets: [&[u8]; 5] = [&FMP, &SIZES_28_84, &TWO_ITEMS, &AT_24, &AT_24];
     let version = "refused 28 BadFmpVersion\n";
-    let cases = [
-        check(
+    expect(
+        &rt,
+        &check(
             "version",
             &[&FMP, &SIZES_28_84, &VERSION_2, &[0; 48]],
             1,
             version,
         ),
-        check(
+    )?;
+    expect(
+        &rt,
+        &check(
             "cut version",
             &[&FMP, &SIZES_28_84, &VERSION_2, &[0; 47]],
             1,
             CUT,
         ),
-        check(
+    )?;
+    expect(
+        &rt,
+        &check(
             "followed version",
             &[&FMP, &SIZES_28_84, &VERSION_2, &[0; 49]],
             1,
             version,
         ),
-        check("cut offsets", &cut_offsets, 1, CUT),
-    ];
-    expect(&rt, &cases)?;
+    )?;
+    expect(&rt, &check("cut offsets", &cut_offsets, 1, CUT))?;
     Ok(())
 }
 
-/// The reads of a capsule with one item: its header, the FMP header, the offset list, the image header, the
-/// end. Behind an FMP header of version 2 the third is that of the rest.
+/// A check of `a.cap` whose read of this number fails.
+fn cut_read<'a>(pieces: &'a [&'a [u8]], read: &'a [u64], status: u8, text: &'a str) -> Case<'a> {
+    Case {
+        name: "read",
+        words: &["check", "a.cap"],
+        pieces,
+        faults: Faults {
+            open: &[],
+            read,
+            write: &[],
+        },
+        status,
+        text: text.as_bytes(),
+    }
+}
+
+/// The reads of a capsule with one item: its header, the FMP header, the offset list, the image
+/// header, the end. Behind an FMP header of version 2 the third is that of the rest.
 #[test]
 fn each_read_of_a_capsule_may_fail(rt: HostRuntime) -> Result<(), Fail> {
-    let pieces: [&[u8]; 5] = [&FMP, &SIZES_28_76, &ONE_ITEM, &AT_16, &IMAGE_1];
-    let whole = check("sixth read", &pieces, 0, "ok 76\n");
-    let unread = Case {
-        status: 4,
-        text: b"unread a.cap\n",
-        ..whole
-    };
+    let whole: [&[u8]; 5] = [&FMP, &SIZES_28_76, &ONE_ITEM, &AT_16, &IMAGE_1];
     for read in 1..6u64 {
-        let faults = Faults {
-            read: &[read],
-            ..CALM
-        };
-        expect(
-            &rt,
-            &[Case {
-                name: "read",
-                faults,
-                ..unread
-            }],
-        )?;
+        expect(&rt, &cut_read(&whole, &[read], 4, "unread a.cap\n"))?;
     }
+    expect(&rt, &cut_read(&whole, &[6], 0, "ok 76\n"))?;
     let refused: [&[u8]; 4] = [&FMP, &SIZES_28_84, &VERSION_2, &[0; 48]];
-    let third = Faults { read: &[3], ..CALM };
-    let sixth = Faults { read: &[6], ..CALM };
-    let cases = [
-        Case {
-            faults: sixth,
-            ..whole
-        },
-        Case {
-            name: "behind a refusal",
-            pieces: &refused,
-            faults: third,
-            ..unread
-        },
-    ];
-    expect(&rt, &cases)?;
+    expect(&rt, &cut_read(&refused, &[3], 4, "unread a.cap\n"))?;
     Ok(())
 }
 
@@ -150,10 +145,10 @@ fn checks_behind_many_images(rt: HostRuntime) -> Result<(), Fail> {
     let capsule = many_images(rt.alloc())?;
     let whole: [&[u8]; 1] = [capsule.as_slice()];
     let followed: [&[u8]; 2] = [capsule.as_slice(), &[0]];
-    let cases = [
-        check("whole", &whole, 0, "ok 2621436\n"),
-        check("followed", &followed, 1, "refused 2621436 Trailing\n"),
-    ];
-    expect(&rt, &cases)?;
+    expect(&rt, &check("whole", &whole, 0, "ok 2621436\n"))?;
+    expect(
+        &rt,
+        &check("followed", &followed, 1, "refused 2621436 Trailing\n"),
+    )?;
     Ok(())
 }

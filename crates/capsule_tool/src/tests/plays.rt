@@ -124,18 +124,34 @@ fn on_one_device<'a>(
     }
 }
 
-/// Plays each, and compares status and lines.
-fn expect_plays(rt: &(impl Abort + AllocGlobal), plays: &[Play<'_>]) -> Result<(), NoMemory> {
-    let alloc = rt.alloc();
-    for play in plays {
-        let mut inputs = given(alloc, text_of(alloc, play.board)?, play.script)?;
-        let mut out = NoFaultSink::new(alloc);
-        let words = ["play", "k.toml", play.script_name];
-        let outcome = run_words(alloc, &words, &mut inputs, &mut out)?;
-        let text = text_of(alloc, play.lines)?;
-        let same = outcome.status == play.status && out.as_slice() == text.as_slice();
-        assert!(rt; same, "{}", play.name);
+/// A play of the script `bot` under this name on another board.
+fn on_board<'a>(
+    name: &'a str,
+    board: &'a [&'a str],
+    script_name: &'a str,
+    status: u8,
+    lines: &'a [&'a str],
+) -> Play<'a> {
+    Play {
+        name,
+        board,
+        script_name,
+        script: &["bot"],
+        status,
+        lines,
     }
+}
+
+/// Plays, and compares status and lines.
+fn expect_play(rt: &(impl Abort + AllocGlobal), play: &Play<'_>) -> Result<(), NoMemory> {
+    let alloc = rt.alloc();
+    let mut inputs = given(alloc, text_of(alloc, play.board)?, play.script)?;
+    let mut out = NoFaultSink::new(alloc);
+    let words = ["play", "k.toml", play.script_name];
+    let outcome = run_words(alloc, &words, &mut inputs, &mut out)?;
+    let text = text_of(alloc, play.lines)?;
+    let same = outcome.status == play.status && out.as_slice() == text.as_slice();
+    assert!(rt; same, "{}", play.name);
     Ok(())
 }
 
@@ -172,11 +188,14 @@ fn deliveries_are_tried(rt: HostRuntime) -> Result<(), Fail> {
         "4 boot ok",
         "done 4",
     ];
-    let plays = [
-        on_one_device("a redelivery is tried again", &again, 0, &tried),
-        on_one_device("a lower version is refused", &lower, 0, &refused),
-    ];
-    expect_plays(&rt, &plays)?;
+    expect_play(
+        &rt,
+        &on_one_device("a redelivery is tried again", &again, 0, &tried),
+    )?;
+    expect_play(
+        &rt,
+        &on_one_device("a lower version is refused", &lower, 0, &refused),
+    )?;
     Ok(())
 }
 
@@ -213,67 +232,49 @@ fn faulty_boards_are_told(rt: HostRuntime) -> Result<(), Fail> {
     let most = with_results("result_max = 239");
     let above = with_results("result_max = 240");
     let text = with_results("result_max = \"15\"");
-    let faulty = on_one_device("", &["bot"], 3, &[]);
-    let unread = Play {
-        script_name: "none",
-        ..faulty
-    };
-    let plays = [
-        Play {
-            name: "most",
-            board: &most,
-            lines: &["script 1 BadEvent"],
-            ..faulty
-        },
-        Play {
-            name: "above",
-            board: &above,
-            lines: &["board BankTooSmall bank"],
-            ..faulty
-        },
-        Play {
-            name: "text",
-            board: &text,
-            lines: &["board WrongKind result_max"],
-            ..faulty
-        },
-        Play {
-            name: "bare",
-            board: &["bank"],
-            lines: &["board BadToml -"],
-            ..faulty
-        },
-        Play {
-            name: "empty",
-            board: &[],
-            lines: &["board MissingKey bank"],
-            ..faulty
-        },
-        Play {
-            name: "before",
-            board: &["bank"],
-            lines: &["board BadToml -"],
-            ..unread
-        },
-        Play {
-            name: "behind",
-            status: 4,
-            lines: &["unread none"],
-            ..unread
-        },
-    ];
-    expect_plays(&rt, &plays)?;
+    let kind = ["board WrongKind result_max"];
+    expect_play(
+        &rt,
+        &on_board("most", &most, "script", 3, &["script 1 BadEvent"]),
+    )?;
+    expect_play(
+        &rt,
+        &on_board("above", &above, "script", 3, &["board BankTooSmall bank"]),
+    )?;
+    expect_play(&rt, &on_board("text", &text, "script", 3, &kind))?;
+    expect_play(
+        &rt,
+        &on_board("bare", &["bank"], "script", 3, &["board BadToml -"]),
+    )?;
+    expect_play(
+        &rt,
+        &on_board("empty", &[], "script", 3, &["board MissingKey bank"]),
+    )?;
+    expect_play(
+        &rt,
+        &on_board("before", &["bank"], "none", 3, &["board BadToml -"]),
+    )?;
+    expect_play(
+        &rt,
+        &on_board("behind", &ONE_DEVICE, "none", 4, &["unread none"]),
+    )?;
     Ok(())
 }
 
 #[test]
 fn faulty_scripts_are_told(rt: HostRuntime) -> Result<(), Fail> {
-    let plays = [
-        on_one_device("event", &["bot"], 3, &["script 1 BadEvent"]),
-        on_one_device("operand", &["boot", "boot 1"], 3, &["script 2 BadOperand"]),
-        on_one_device("text", &["boot", "", "\t"], 3, &["script 3 BadText"]),
-    ];
-    expect_plays(&rt, &plays)?;
+    expect_play(
+        &rt,
+        &on_one_device("event", &["bot"], 3, &["script 1 BadEvent"]),
+    )?;
+    expect_play(
+        &rt,
+        &on_one_device("operand", &["boot", "boot 1"], 3, &["script 2 BadOperand"]),
+    )?;
+    expect_play(
+        &rt,
+        &on_one_device("text", &["boot", "", "\t"], 3, &["script 3 BadText"]),
+    )?;
     Ok(())
 }
 
@@ -284,16 +285,22 @@ fn what_is_played_later_is_told(rt: HostRuntime) -> Result<(), Fail> {
     board[13..].copy_from_slice(&SECOND_DEVICE);
     let thick = ["drop a c1", "drop b thick", "drop c none"];
     let missing = ["drop a c1", "drop b none", "drop c thick"];
-    let plays = [
-        Play {
-            board: &board,
-            ..on_one_device("two devices", &["boot"], 8, &["later k.toml"])
-        },
-        on_one_device("another event", &["boot", "show"], 8, &["later script"]),
-        on_one_device("the first that is not thin", &thick, 8, &["later thick"]),
-        on_one_device("the first that is missing", &missing, 4, &["unread none"]),
-    ];
-    expect_plays(&rt, &plays)?;
+    expect_play(
+        &rt,
+        &on_board("two devices", &board, "script", 8, &["later k.toml"]),
+    )?;
+    expect_play(
+        &rt,
+        &on_one_device("another event", &["boot", "show"], 8, &["later script"]),
+    )?;
+    expect_play(
+        &rt,
+        &on_one_device("the first that is not thin", &thick, 8, &["later thick"]),
+    )?;
+    expect_play(
+        &rt,
+        &on_one_device("the first that is missing", &missing, 4, &["unread none"]),
+    )?;
     Ok(())
 }
 
