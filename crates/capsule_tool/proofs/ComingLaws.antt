@@ -1,5 +1,6 @@
 -- How the reading of inputs comes from name to name.
-use Rattle.std.proofs.Common.{◌≡◌, ℕ, suc, ◌+◌, ◌<◌, ◌≤◌, List, [], ◌∷◌, ◌++◌, length, map, take, drop, get_or, Option, sym, ◌∙◌, ap, add-one}
+use Rattle.std.proofs.Common.{◌≡◌, ℕ, suc, ◌+◌, ◌<◌, ◌≤◌, List, [], ◌∷◌, ◌++◌, length, map, take}
+use Rattle.std.proofs.Common.{drop, get_or, Option, sym, ◌∙◌, ap, add-one}
 use Rattle.std.proofs.Math.Seq.{drop-cons}
 use Rattle.std.proofs.lemmas.List.{take_more, drop_all}
 use Rattle.bench_model.specs.Boards.{BoardValue}
@@ -15,25 +16,38 @@ use Rattle.capsule_tool.specs.declared.stop.Stop.{Stop}
 use Rattle.capsule_tool.proofs.WorkLaws.{through, then_stops, stays}
 
 -- the work on these names has come to those from the i-th on, where the others are loaded
-pub record HasCome (named : Option Named) (board : BoardValue) (names : List (List ℕ)) (before : Seen) (loaded : Named) (sum i : ℕ) (after : Seen) : Type 0 where
-  pub comes : (events : List Event) → ComesTo named (inputs_work board events [] 0 names) before (inputs_work board events loaded sum (drop i names)) after
+pub record HasCome (named : Option Named) (board : BoardValue) (names : List (List ℕ))
+    (before : Seen) (loaded : Named) (sum i : ℕ) (after : Seen) : Type 0 where
+  pub comes : (events : List Event)
+      → ComesTo named (inputs_work board events [] 0 names) before
+      (inputs_work board events loaded sum (drop i names)) after
 
-pub come_start : (named : Option Named) (board : BoardValue) (names : List (List ℕ)) (b : Seen) (loaded : Named) → loaded ≡ [] → HasCome named board names b loaded 0 0 b
-come_start named board names b loaded is = record { comes = λ events. rw is (stays named (inputs_work board events [] 0 names) b) }
+pub come_start : (named : Option Named) (board : BoardValue) (names : List (List ℕ)) (b : Seen)
+    (loaded : Named) → loaded ≡ [] → HasCome named board names b loaded 0 0 b
+come_start named board names b loaded is = record {
+  comes =
+      λ events. rw is (stays named (inputs_work board events [] 0 names) b);
+}
 
 -- the work on the names from a place on, where one stands there
-opens : (board : BoardValue) (events : List Event) (loaded : Named) (sum i : ℕ) (names : List (List ℕ)) (name : List ℕ) → drop i names ≡ name ∷ drop (i + 1) names
-    → inputs_work board events loaded sum (drop i names) ≡ input_work board loaded sum name (λ loaded' sum'. inputs_work board events loaded' sum' (drop (i + 1) names))
+opens : (board : BoardValue) (events : List Event) (loaded : Named) (sum i : ℕ)
+    (names : List (List ℕ)) (name : List ℕ) → drop i names ≡ name ∷ drop (i + 1) names
+    → inputs_work board events loaded sum (drop i names)
+    ≡ input_work board loaded sum name (λ loaded' sum'. inputs_work board events loaded' sum'
+    (drop (i + 1) names))
 opens board events loaded sum i names name is = ap (inputs_work board events loaded sum) is
 
-pub come_on : (named' named : Option Named) (board : BoardValue) (names : List (List ℕ)) (b : Seen) (loaded : Named) (sum i : ℕ) (m : Seen)
+pub come_on : (named' named : Option Named) (board : BoardValue) (names : List (List ℕ)) (b : Seen)
+    (loaded : Named) (sum i : ℕ) (m : Seen)
     (name : List ℕ) (loaded' : Named) (sum' : ℕ) (a : Seen)
     → HasCome named board names b loaded sum i m → drop i names ≡ name ∷ drop (i + 1) names
-    → named' ≡ named → ((rest : Named → ℕ → Work) → ComesTo named' (input_work board loaded sum name rest) m (rest loaded' sum') a)
+    → named' ≡ named → ((rest : Named → ℕ → Work)
+    → ComesTo named' (input_work board loaded sum name rest) m (rest loaded' sum') a)
     → HasCome named board names b loaded' sum' (i + 1) a
 come_on named' named board names b loaded sum i m name loaded' sum' a come is same then = record {
   comes = λ events.
-      through named (inputs_work board events [] 0 names) b _ m _ a (rw (opens board events loaded sum i names name is) at (come.comes events))
+      through named (inputs_work board events [] 0 names) b _ m _ a
+      (rw (opens board events loaded sum i names name is) at (come.comes events))
       (rw same at (then (λ loaded sum. inputs_work board events loaded sum (drop (i + 1) names))));
 }
 
@@ -48,18 +62,25 @@ come_stopped board names b loaded sum i m name a stop come is same stops events 
     (rw (opens board events loaded sum i names name is) at (come.comes events)) same
     (stops (λ loaded sum. inputs_work board events loaded sum (drop (i + 1) names)))
 
-pub come_done : (named : Option Named) (board : BoardValue) (names : List (List ℕ)) (b : Seen) (loaded : Named) (sum i : ℕ) (a : Seen)
+pub come_done : (named : Option Named) (board : BoardValue) (names : List (List ℕ)) (b : Seen)
+    (loaded : Named) (sum i : ℕ) (a : Seen)
     → HasCome named board names b loaded sum i a → drop i names ≡ []
-    → (events : List Event) → ComesTo named (inputs_work board events [] 0 names) b (Finds (played board events loaded)) a
+    → (events : List Event)
+    → ComesTo named (inputs_work board events [] 0 names) b (Finds (played board events loaded))
+    a
 come_done named board names b loaded sum i a come is events = rw is at (come.comes events)
 
 -- places
-pub item_drop : (names : List (List ℕ)) (i : ℕ) (name : List ℕ) → i < length names → name ≡ get_or names i name → drop i names ≡ name ∷ drop (i + 1) names
+pub item_drop : (names : List (List ℕ)) (i : ℕ) (name : List ℕ) → i < length names
+    → name ≡ get_or names i name → drop i names ≡ name ∷ drop (i + 1) names
 item_drop names i name low is =
-    drop-cons names i name low ∙ (ap (λ (x : List ℕ). x ∷ drop (suc i) names) (sym is) ∙ ap (λ k. name ∷ drop k names) (sym (add-one i)))
+    drop-cons names i name low ∙ (ap (λ (x : List ℕ). x ∷ drop (suc i) names) (sym is)
+    ∙ ap (λ k. name ∷ drop k names) (sym (add-one i)))
 
-pub item_take : (names : List (List ℕ)) (i : ℕ) (name : List ℕ) (loaded loaded' : Named) → i < length names → name ≡ get_or names i name
-    → map (λ pair. pair.0) loaded' ≡ map (λ pair. pair.0) loaded ++ name ∷ [] → map (λ pair. pair.0) loaded ≡ take i names
+pub item_take : (names : List (List ℕ)) (i : ℕ) (name : List ℕ) (loaded loaded' : Named)
+    → i < length names → name ≡ get_or names i name
+    → map (λ pair. pair.0) loaded' ≡ map (λ pair. pair.0) loaded ++ name ∷ []
+    → map (λ pair. pair.0) loaded ≡ take i names
     → map (λ pair. pair.0) loaded' ≡ take (i + 1) names
 item_take names i name loaded loaded' low is more before =
     more ∙ (ap (λ (l : List (List ℕ)). l ++ name ∷ []) before

@@ -38,7 +38,8 @@ comes_on named (bytes ∷ rest) more (Reads limit name next) w' w'' (holds, shor
     (holds, short, comes_on named rest more (next bytes) w' w'' comes then)
 
 names_on : (named : Option Named) (readings more : List (List ℕ)) (w w' : Work)
-    → Comes named readings w w' → names_by (readings ++ more) w ≡ names_by readings w ++ names_by more w'
+    → Comes named readings w w' → names_by (readings ++ more) w ≡ names_by readings w
+    ++ names_by more w'
 names_on named [] more w w' comes = ap (names_by more) (sym comes)
 names_on named (bytes ∷ rest) more (Finds finding) w' comes = absurd comes
 names_on named (bytes ∷ rest) more (Reads limit name next) w' (holds, short, comes) =
@@ -47,42 +48,72 @@ names_on named (bytes ∷ rest) more (Reads limit name next) w' (holds, short, c
 took_on : (names names' readings more : List (List ℕ)) (b m a : Seen)
     → Took names readings b m → Took names' more m a → Took (names ++ names') (readings ++ more) b a
 took_on names names' readings more b m a first second = record {
-  asked = second.asked ∙ (ap (λ (asked : List (List ℕ)). asked ++ names') first.asked ∙ append_assoc b.asked names names');
-  taken = rw (sum_by-append length readings more) (rose_on (sum_by length readings) (sum_by length more) b.taken m.taken a.taken first.taken second.taken);
+  asked = second.asked ∙ (ap (λ (asked : List (List ℕ)). asked ++ names') first.asked
+      ∙ append_assoc b.asked names names');
+  taken = rw (sum_by-append length readings more)
+      (rose_on (sum_by length readings) (sum_by length more) b.taken m.taken a.taken first.taken
+      second.taken);
   later = omega (arith, first.later, second.later);
 }
 
-pub through : (named : Option Named) (w : Work) (b : Seen) (w' : Work) (m : Seen) (w'' : Work) (a : Seen)
+pub through : (named : Option Named) (w : Work) (b : Seen) (w' : Work) (m : Seen) (w'' : Work)
+    (a : Seen)
     → ComesTo named w b w' m → ComesTo named w' m w'' a → ComesTo named w b w'' a
 through named w b w' m w'' a (readings, comes, took) (more, then, took') = (
   readings ++ more,
   comes_on named readings more w w' w'' comes then,
-  rw (names_on named readings more w w' comes) (took_on (names_by readings w) (names_by more w') readings more b m a took took'),
+  rw (names_on named readings more w w' comes)
+      (took_on (names_by readings w) (names_by more w') readings more b m a took took'),
 )
 
 pub stays : (named : Option Named) (w : Work) (b : Seen) → ComesTo named w b w b
-stays named w b = ([], refl, record { asked = sym (append-nil b.asked); taken = rose_still b.taken; later = omega arith })
+stays named w b = (
+  [],
+  refl,
+  record {
+    asked = sym (append-nil b.asked);
+    taken = rose_still b.taken;
+    later =
+        omega arith;
+  },
+)
 
 -- by one reading
-pub one_read : (named : Option Named) (limit : ℕ) (name : List ℕ) (next : List ℕ → Work) (b a : Seen) (bytes : List ℕ)
-    → WasRead named limit name b a (Whole bytes) → ComesTo named (Reads limit name next) b (next bytes) a
-one_read named limit name next b a bytes read =
-    (bytes ∷ [], (read.gives.0, read.gives.1, refl), record { asked = read.asked; taken = omega (arith, read.gives.2); later = read.later })
+pub one_read : (named : Option Named) (limit : ℕ) (name : List ℕ) (next : List ℕ
+    → Work) (b a : Seen) (bytes : List ℕ)
+    → WasRead named limit name b a (Whole bytes)
+    → ComesTo named (Reads limit name next) b (next bytes) a
+one_read named limit name next b a bytes read = (
+  bytes ∷ [],
+  (read.gives.0, read.gives.1, refl),
+  record {
+    asked = read.asked;
+    taken =
+        omega (arith, read.gives.2);
+    later = read.later;
+  },
+)
 
 -- what may be found and where memory may run out
-pub find_through : (named : Option Named) (w : Work) (b : Seen) (w' : Work) (m a : Seen) (finding : Finding)
+pub find_through : (named : Option Named) (w : Work) (b : Seen) (w' : Work) (m a : Seen)
+    (finding : Finding)
     → ComesTo named w b w' m → MayFind named w' m a finding → MayFind named w b a finding
-find_through named w b w' m a finding comes (inl then) = inl (through named w b w' m (Finds finding) a comes then)
-find_through named w b w' m a finding comes (inr (w'', middle, then, ends)) = inr (w'', middle, through named w b w' m w'' middle comes then, ends)
+find_through named w b w' m a finding comes (inl then) =
+    inl (through named w b w' m (Finds finding) a comes then)
+find_through named w b w' m a finding comes (inr (w'', middle, then, ends)) =
+    inr (w'', middle, through named w b w' m w'' middle comes then, ends)
 
 pub stop_through : (named : Option Named) (w : Work) (b : Seen) (w' : Work) (m a : Seen)
     → ComesTo named w b w' m → MayStop named w' m a → MayStop named w b a
-stop_through named w b w' m a comes (w'', middle, then, stops) = (w'', middle, through named w b w' m w'' middle comes then, stops)
+stop_through named w b w' m a comes (w'', middle, then, stops) =
+    (w'', middle, through named w b w' m w'' middle comes then, stops)
 
-pub ended : (named : Option Named) (w : Work) (b a : Seen) (finding : Finding) → EndsAt named w b a finding → MayFind named w b a finding
+pub ended : (named : Option Named) (w : Work) (b a : Seen) (finding : Finding)
+    → EndsAt named w b a finding → MayFind named w b a finding
 ended named w b a finding ends = inr (w, b, stays named w b, ends)
 
-pub stop_here : (named : Option Named) (w : Work) (b : Seen) (w' : Work) (a : Seen) → ComesTo named w b w' a → MayStop named w b a
+pub stop_here : (named : Option Named) (w : Work) (b : Seen) (w' : Work) (a : Seen)
+    → ComesTo named w b w' a → MayStop named w b a
 stop_here named w b w' a comes = (w', a, comes, inl refl)
 
 -- steps
@@ -158,7 +189,8 @@ read_stopped limit name next next' b a faults.Memory result is read =
 pub judged_on : (name : List ℕ) (next : Verdict → Work) (b a : Seen) (verdict : Verdict)
     → JudgesAs name b a (Ok verdict) → ComesTo b.named (judge_work name next) b (next verdict) a
 judged_on name next b a verdict (bytes, read, is) =
-    rw is (one_read b.named MAX_CAPSULE_BYTES name (λ bytes. next (verdict_of bytes)) b a bytes read)
+    rw is (one_read b.named MAX_CAPSULE_BYTES name (λ bytes. next (verdict_of bytes)) b a bytes
+    read)
 
 pub finds_as : (named : Option Named) (w : Work) (b a : Seen) (finding finding' : Finding)
     → finding ≡ finding' → ComesTo named w b (Finds finding') a
@@ -166,7 +198,8 @@ pub finds_as : (named : Option Named) (w : Work) (b a : Seen) (finding finding' 
 finds_as named w b a finding finding' is comes = rw is comes
 
 -- results
-pub lift : {X E : Type 0} (result : Result X E) (P Q : X → Type 0) → ((x : X) → P x → Q x) → IfOk result P → IfOk result Q
+pub lift : {X E : Type 0} (result : Result X E) (P Q : X → Type 0) → ((x : X) → P x → Q x)
+    → IfOk result P → IfOk result Q
 lift (Ok x) P Q implies holds = implies x holds
 lift (Err e) P Q implies holds = tt
 

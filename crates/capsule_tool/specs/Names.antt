@@ -1,9 +1,12 @@
 -- The names of the faults of boards and scripts, as they are printed.
 use Rattle.std.specs.Prelude.{ℕ, List, codes}
 use Rattle.recipe_files.specs.declared.faults.BadKind.{BadKind}
-use Rattle.recipe_files.specs.declared.faults.BadKind.TheVariants.{BadToml, MissingKey, WrongKind, OutOfRange, BadGuid, Repeated, BankTooSmall}
+use Rattle.recipe_files.specs.declared.faults.BadKind.TheVariants.{BadToml, MissingKey, WrongKind}
+use Rattle.recipe_files.specs.declared.faults.BadKind.TheVariants.{OutOfRange, BadGuid, Repeated}
+use Rattle.recipe_files.specs.declared.faults.BadKind.TheVariants.{BankTooSmall}
 use Rattle.reset_play.specs.declared.script.faults.ScriptKind.{ScriptKind}
-use Rattle.reset_play.specs.declared.script.faults.ScriptKind.TheVariants.{BadText, BadEvent, BadOperand, TooMany}
+use Rattle.reset_play.specs.declared.script.faults.ScriptKind.TheVariants.{BadText, BadEvent}
+use Rattle.reset_play.specs.declared.script.faults.ScriptKind.TheVariants.{BadOperand, TooMany}
 
 -- of a board
 abbrev pub board_kind : BadKind → List ℕ

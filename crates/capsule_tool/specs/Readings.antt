@@ -1,5 +1,7 @@
--- What may come of reading an input, by what the inputs tell and by what was seen of them before and after.
-use Rattle.std.specs.Prelude.{◌≡◌, ℕ, ◌+◌, ◌≤◌, ◌<◌, ◌⊎◌, nat_lt, List, [], ◌∷◌, ◌++◌, length, Option, None, Some, IsSomeAnd, Result, Ok, Err, ⊤, if◌then◌else◌}
+-- What may come of reading an input, by what the inputs tell and by what was seen of them before
+-- and after.
+use Rattle.std.specs.Prelude.{◌≡◌, ℕ, ◌+◌, ◌≤◌, ◌<◌, ◌⊎◌, nat_lt, List, [], ◌∷◌, ◌++◌, length}
+use Rattle.std.specs.Prelude.{Option, None, Some, IsSomeAnd, Result, Ok, Err, ⊤, if◌then◌else◌}
 use Rattle.cu_base.specs.Causes.{Rose, RoseBy}
 use Rattle.cu_base.specs.declared.limits.TheConstants.{MAX_CAPSULE_BYTES}
 use Rattle.cu_io.specs.Named.{Named, IsMissing, bytes_named}
@@ -9,8 +11,8 @@ use Rattle.cu_io.specs.declared.read.ReadFault.TheVariants.{Read, TooLong, Memor
 use Rattle.capsule_tool.specs.Verdicts.{verdict_of}
 use Rattle.capsule_tool.specs.declared.verdict.Verdict.{Verdict}
 
--- what may come of reading an input: all of its bytes; it is not there or a call failed; it is longer than
--- its limit
+-- what may come of reading an input: all of its bytes; it is not there or a call failed; it is
+-- longer than its limit
 pub data Reading : Type 0 where
   Whole : (bytes : List ℕ) → Reading
   Unread : Reading
@@ -24,9 +26,11 @@ MayHold (Some named) name bytes = bytes_named named name ≡ Some bytes
 -- the input may be longer than its limit: it is, where names are told
 abbrev pub MayPassLimit : Option Named → ℕ → List ℕ → Type 0
 MayPassLimit None limit name = ⊤
-MayPassLimit (Some named) limit name = IsSomeAnd (bytes_named named name) (λ bytes. limit < length bytes)
+MayPassLimit (Some named) limit name = IsSomeAnd (bytes_named named name)
+    (λ bytes. limit < length bytes)
 
--- all bytes came and were counted; or a fault was counted, or the name is missing; or one byte more than the limit came
+-- all bytes came and were counted; or a fault was counted, or the name is missing; or one byte more
+-- than the limit came
 abbrev pub IsReading : Option Named → ℕ → List ℕ → Seen → Seen → Reading → Type 0
 IsReading named limit name before after (Whole bytes) =
     MayHold named name bytes × (length bytes ≤ limit)
@@ -51,7 +55,8 @@ ReadsAs limit name before after (Err Read) = WasRead before.named limit name bef
 ReadsAs limit name before after (Err TooLong) = WasRead before.named limit name before after Long
 ReadsAs limit name before after (Err Memory) = MayAsk name before after
 
--- the input of this name was read so, up to the limit of a capsule, and this is the verdict on its bytes
+-- the input of this name was read so, up to the limit of a capsule, and this is the verdict on its
+-- bytes
 abbrev pub JudgesAs : List ℕ → Seen → Seen → Result Verdict ReadFault → Type 0
 JudgesAs name before after (Ok verdict) =
     (bytes : List ℕ) × ReadsAs MAX_CAPSULE_BYTES name before after (Ok bytes)

@@ -1,4 +1,5 @@
--- What a run may answer: when each status comes, and what is written with it. work is the work of the words.
+-- What a run may answer: when each status comes, and what is written with it. work is the work of
+-- the words.
 use Rattle.std.specs.Prelude.{◌≡◌, ℕ, ◌+◌, ◌⊎◌, List, [], Option, None, Some, ⊤}
 use Rattle.std.specs.Io.KnownBytes.{Keeps}
 use Rattle.cu_base.specs.Causes.{Rose, RoseBy}
@@ -17,8 +18,8 @@ use Rattle.capsule_tool.specs.declared.answer.Answer.{Answer}
 use Rattle.capsule_tool.specs.declared.command.Command.{Command}
 use Rattle.capsule_tool.specs.declared.limits.TheConstants.{MAX_NAMED_BYTES}
 
--- the answer is written whole and gives the status; or a write failed and the sink's count rose, or memory ran
--- out, and a prefix of it was written
+-- the answer is written whole and gives the status; or a write failed and the sink's count rose, or
+-- memory ran out, and a prefix of it was written
 abbrev pub Writes : Answer → ℕ → SinkSeen → SinkSeen → Type 0
 Writes answer status out out' =
     ((status ≡ code_of answer.status) × AppendsAll out out' answer.text)
@@ -26,7 +27,8 @@ Writes answer status out out' =
     ⊎ ((status ≡ 6) × AppendsFront out out' answer.text))
 
 -- the told status, trace and text; or memory ran out
-abbrev pub AnswersAsTold : Option Named → List (List ℕ) → ℕ → List Said → SinkSeen → SinkSeen → Type 0
+abbrev pub AnswersAsTold : Option Named → List (List ℕ) → ℕ → List Said → SinkSeen → SinkSeen
+    → Type 0
 AnswersAsTold None words status trace out out' = ⊤
 AnswersAsTold (Some named) words status trace out out' =
     (status ≡ 6)
@@ -47,28 +49,37 @@ IsUsage command out out' = (command ≡ None) × AppendsAll out out' usage.text
 -- the work comes to an input, and the inputs' count rose, or names are told and lack it
 abbrev pub IsUnread : Work → Option Named → Seen → Seen → SinkSeen → SinkSeen → Type 0
 IsUnread work named before after out out' =
-    (limit : ℕ) × (name : List ℕ) × (next : List ℕ → Work) × (readings : List (List ℕ)) × Comes named readings work (Reads limit name next)
-    × (Rose before.faults after.faults ⊎ IsMissing named name) × AppendsAll out out' (unread name).text
+    (limit : ℕ) × (name : List ℕ) × (next : List ℕ → Work) × (readings : List (List ℕ))
+    × Comes named readings work (Reads limit name next)
+    × (Rose before.faults after.faults ⊎ IsMissing named name)
+    × AppendsAll out out' (unread name).text
 
--- the work comes to an input that is longer than its limit, where names are told; and one byte more than that was taken
+-- the work comes to an input that is longer than its limit, where names are told; and one byte more
+-- than that was taken
 abbrev pub IsLongOne : Work → Option Named → Seen → Seen → SinkSeen → SinkSeen → Type 0
 IsLongOne work named before after out out' =
-    (limit : ℕ) × (name : List ℕ) × (next : List ℕ → Work) × (readings : List (List ℕ)) × Comes named readings work (Reads limit name next)
-    × MayPassLimit named limit name × RoseBy (limit + 1) before.taken after.taken × AppendsAll out out' (long name).text
+    (limit : ℕ) × (name : List ℕ) × (next : List ℕ → Work) × (readings : List (List ℕ))
+    × Comes named readings work (Reads limit name next)
+    × MayPassLimit named limit name × RoseBy (limit + 1) before.taken after.taken
+    × AppendsAll out out' (long name).text
 
--- an input passes its limit; or inputs hold bytes by whose sum the work finds so, and more than the sum's limit was taken
+-- an input passes its limit; or inputs hold bytes by whose sum the work finds so, and more than the
+-- sum's limit was taken
 abbrev pub IsLong : Work → Option Named → Seen → Seen → List Said → SinkSeen → SinkSeen → Type 0
 IsLong work named before after trace out out' =
     IsLongOne work named before after out out'
     ⊎ (Judges work named 7 trace out out' × RoseBy (MAX_NAMED_BYTES + 1) before.taken after.taken)
 
--- one finding that the work may come to gave the text, the trace, the status and the names asked for, and only work that
--- was done has a trace; or memory ran out before anything was found, and nothing was written
+-- one finding that the work may come to gave the text, the trace, the status and the names asked
+-- for, and only work that was done has a trace; or memory ran out before anything was found, and
+-- nothing was written
 abbrev pub EndsBy : Work → Option Named → Seen → Seen → ℕ → List Said → SinkSeen → SinkSeen → Type 0
 EndsBy work named before after status trace out out' =
-    ((finding : Finding) × MayFind named work before after finding × Writes finding.answer status out out'
+    ((finding : Finding) × MayFind named work before after finding
+    × Writes finding.answer status out out'
     × (trace ≡ finding.trace) × ((trace ≡ []) ⊎ (code_of finding.answer.status ≡ 0)))
-    ⊎ ((status ≡ 6) × (trace ≡ []) × Keeps out.written out'.written × MayStop named work before after)
+    ⊎ ((status ≡ 6) × (trace ≡ []) × Keeps out.written out'.written
+    × MayStop named work before after)
 
 -- no call of the inputs and of the sink failed
 pub record IsCalm (before after : Seen) (out out' : SinkSeen) : Type 0 where

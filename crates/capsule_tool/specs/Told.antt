@@ -9,7 +9,8 @@ use Rattle.capsule_tool.specs.Plays.{play_work}
 use Rattle.capsule_tool.specs.Works.{Work, told_by}
 use Rattle.capsule_tool.specs.Works.Work.{Finds}
 use Rattle.capsule_tool.specs.declared.command.Command.{Command}
-use Rattle.capsule_tool.specs.declared.command.Command.TheVariants.{Check, Show, Rebuild, Make, Play, Load}
+use Rattle.capsule_tool.specs.declared.command.Command.TheVariants.{Check, Show, Rebuild, Make}
+use Rattle.capsule_tool.specs.declared.command.Command.TheVariants.{Play, Load}
 
 -- a word by its place
 abbrev pub word : List (List ℕ) → ℕ → List ℕ

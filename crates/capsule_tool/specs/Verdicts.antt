@@ -1,10 +1,15 @@
--- What `check` finds of the bytes of a file: the first refusal of the capsule grammar, else bytes that follow the
--- capsule, else one whole capsule.
-use Rattle.std.specs.Prelude.{◌≡◌, ◌≤◌, ℕ, nat_lt, List, length, codes, Option, None, Some, if◌then◌else◌, ⊤}
+-- What `check` finds of the bytes of a file: the first refusal of the capsule grammar, else bytes
+-- that follow the capsule, else one whole capsule.
+use Rattle.std.specs.Prelude.{◌≡◌, ◌≤◌, ℕ, nat_lt, List, length, codes, Option, None, Some}
+use Rattle.std.specs.Prelude.{if◌then◌else◌, ⊤}
 use Rattle.fmp_headers.specs.CapsuleHeader.{image_size}
 use Rattle.capsule_grammar.specs.Refusals.{refusal}
 use Rattle.capsule_grammar.specs.declared.refusal.Why.{Why}
-use Rattle.capsule_grammar.specs.declared.refusal.Why.TheVariants.{Short, BadHeaderSize, BadImageSize, BadFmpVersion, BadImageVersion, OffsetsOutside, OffsetsNotRising, ImageOutside, TooManyCapsules}
+use Rattle.capsule_grammar.specs.declared.refusal.Why.TheVariants.{Short, BadHeaderSize}
+use Rattle.capsule_grammar.specs.declared.refusal.Why.TheVariants.{BadImageSize, BadFmpVersion}
+use Rattle.capsule_grammar.specs.declared.refusal.Why.TheVariants.{BadImageVersion, OffsetsOutside}
+use Rattle.capsule_grammar.specs.declared.refusal.Why.TheVariants.{OffsetsNotRising, ImageOutside}
+use Rattle.capsule_grammar.specs.declared.refusal.Why.TheVariants.{TooManyCapsules}
 use Rattle.capsule_tool.specs.declared.verdict.Verdict.{Verdict}
 use Rattle.capsule_tool.specs.declared.verdict.Verdict.TheVariants.{Whole, Refused, Trailing}
 
@@ -23,7 +28,8 @@ name_of TooManyCapsules = codes "TooManyCapsules"
 -- what is found, by the first refusal
 abbrev pub verdict_by : Option (ℕ × Why) → List ℕ → Verdict
 verdict_by (Some refused) bytes = Refused (record { at = refused.0; why = refused.1 })
-verdict_by None bytes = if nat_lt (image_size bytes) (length bytes) then Trailing (image_size bytes) else Whole (image_size bytes)
+verdict_by None bytes = if nat_lt (image_size bytes) (length bytes) then
+    Trailing (image_size bytes) else Whole (image_size bytes)
 
 -- what is found of the bytes of a file
 abbrev pub verdict_of : List ℕ → Verdict

@@ -1,5 +1,6 @@
--- The work of a run: the inputs that it reads, one after the other, and what it finds then. What the program finds, what it
--- may find whatever happens outside, and the names that it asks for are all read off it.
+-- The work of a run: the inputs that it reads, one after the other, and what it finds then. What
+-- the program finds, what it may find whatever happens outside, and the names that it asks for are
+-- all read off it.
 use Rattle.std.specs.Prelude.{◌≡◌, ℕ, ◌≤◌, ◌⊎◌, List, [], ◌∷◌, ◌++◌, length, sum_by, Option}
 use Rattle.cu_base.specs.Causes.{RoseBy}
 use Rattle.cu_io.specs.Named.{Named, bytes_named}
@@ -23,7 +24,8 @@ by_reading name next Long = bare (long name)
 -- what is found where inputs are told and no call fails
 abbrev pub told_by : Named → Work → Finding
 told_by named (Finds finding) = finding
-told_by named (Reads limit name next) = by_reading name (λ bytes. told_by named (next bytes)) (reading_of limit (bytes_named named name))
+told_by named (Reads limit name next) = by_reading name (λ bytes. told_by named (next bytes))
+    (reading_of limit (bytes_named named name))
 
 -- a work comes to another by reading these bytes whole, input by input
 abbrev pub Comes : Option Named → List (List ℕ) → Work → Work → Type 0
@@ -52,7 +54,8 @@ pub record Took (names readings : List (List ℕ)) (before after : Seen) : Type 
 -- a work comes to another between these moments
 abbrev pub ComesTo : Option Named → Work → Seen → Work → Seen → Type 0
 ComesTo named work before work' after =
-    (readings : List (List ℕ)) × Comes named readings work work' × Took (names_by readings work) readings before after
+    (readings : List (List ℕ)) × Comes named readings work work'
+    × Took (names_by readings work) readings before after
 
 -- a reading that does not give all bytes decides
 abbrev pub Decides : List ℕ → Reading → Finding → Type 0
@@ -64,15 +67,19 @@ Decides name Long finding = finding ≡ bare (long name)
 abbrev pub EndsAt : Option Named → Work → Seen → Seen → Finding → Type 0
 EndsAt named (Finds it) before after finding = ⊥
 EndsAt named (Reads limit name next) before after finding =
-    (reading : Reading) × WasRead named limit name before after reading × Decides name reading finding
+    (reading : Reading) × WasRead named limit name before after reading
+    × Decides name reading finding
 
--- what a work may find, whatever happens outside: what it comes to, or what the reading of an input decides
+-- what a work may find, whatever happens outside: what it comes to, or what the reading of an input
+-- decides
 abbrev pub MayFind : Option Named → Work → Seen → Seen → Finding → Type 0
 MayFind named work before after finding =
     ComesTo named work before (Finds finding) after
-    ⊎ ((work' : Work) × (middle : Seen) × ComesTo named work before work' middle × EndsAt named work' middle after finding)
+    ⊎ ((work' : Work) × (middle : Seen) × ComesTo named work before work' middle
+    × EndsAt named work' middle after finding)
 
--- where a work may stop for want of memory: where it comes to, before or after it asks for its next input
+-- where a work may stop for want of memory: where it comes to, before or after it asks for its next
+-- input
 abbrev pub MayStop : Option Named → Work → Seen → Seen → Type 0
 MayStop named work before after =
     (work' : Work) × (middle : Seen) × ComesTo named work before work' middle

@@ -33,8 +33,8 @@ pub fn read_input<I: Inputs>(
     }
 }
 
-/// Judges the input of this name as it is read, up to the limit of a capsule. Its bytes are not kept.
-/// Where reading fails, the failure is answered.
+/// Judges the input of this name as it is read, up to the limit of a capsule. Its bytes are not
+/// kept. Where reading fails, the failure is answered.
 pub fn judge_input<I: Inputs>(alloc: Global, name: &Text, inputs: &mut I) -> Result<Verdict, Stop>
     ensures steps { (next : Verdict → Work)
         → StepsTo (judge_work name.now next) next (I.seen inputs.old) (I.seen inputs.new) result }

@@ -1,8 +1,9 @@
-//! `capsule_tool` checks and rebuilds UEFI capsule files, and plays a platform that takes them. Its words are
-//! `check FILE`, `rebuild FILE` and `play BOARD SCRIPT`; the other commands are still to be built, and answer so.
+//! `capsule_tool` checks and rebuilds UEFI capsule files, and plays a platform that takes them. Its
+//! words are `check FILE`, `rebuild FILE` and `play BOARD SCRIPT`; the other commands are still to
+//! be built, and answer so.
 //!
-//! `run` is the whole program over inputs and a sink: what it writes, its status and the trace of a play are a
-//! function of the words and of the bytes of the inputs, wherever nothing outside fails.
+//! `run` is the whole program over inputs and a sink: what it writes, its status and the trace of a
+//! play are a function of the words and of the bytes of the inputs, wherever nothing outside fails.
 #![tactic(auto)]
 
 mod answer;

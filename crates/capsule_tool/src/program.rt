@@ -23,8 +23,8 @@ use reset_play::Trace;
 use std::alloc::Global;
 use std::marker::Model;
 
-/// How a run ended: the status, and what a play told of its events. With status 6 the trace is whole or
-/// empty. Contracts see the trace as what it tells.
+/// How a run ended: the status, and what a play told of its events. With status 6 the trace is
+/// whole or empty. Contracts see the trace as what it tells.
 #[derive(Drop)]
 pub struct Outcome {
     pub status: u8,
@@ -90,15 +90,16 @@ fn say<O: Sink>(out: &mut O, found: Found) -> Outcome
     }
 }
 
-/// The whole program: the words are done over the inputs, and what was found is written to the sink. All
-/// reading comes before all writing.
+/// The whole program: the words are done over the inputs, and what was found is written to the
+/// sink. All reading comes before all writing.
 pub fn run<I: Inputs, O: Sink>(
     alloc: Global,
     words: &[Text],
     inputs: &mut I,
     out: &mut O,
 ) -> Outcome
-    // Where nothing outside fails, status, trace and text are those told by the words and the bytes.
+    // Where nothing outside fails, status, trace and text are those told by the words and the
+    // bytes.
     ensures told { IsCalm (I.seen inputs.old) (I.seen inputs.new) (O.seen out.old) (O.seen out.new)
         → AnswersAsTold (I.seen inputs.old).named words.now result.status result.trace
         (O.seen out.old) (O.seen out.new) }
@@ -127,8 +128,8 @@ pub fn run<I: Inputs, O: Sink>(
         (O.seen out.old) (O.seen out.new) }
     ensures bound { result.status ≤ 8 }
 
-    // One finding gave status, trace, text and the names asked for; or memory ran out first. Only work
-    // that was done has a trace.
+    // One finding gave status, trace, text and the names asked for; or memory ran out first. Only
+    // work that was done has a trace.
     ensures found { EndsBy (work_of words.now) (I.seen inputs.old).named
         (I.seen inputs.old) (I.seen inputs.new) result.status result.trace
         (O.seen out.old) (O.seen out.new) }

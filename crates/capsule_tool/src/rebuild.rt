@@ -41,8 +41,8 @@ fn rebuild_bytes(alloc: Global, bytes: Blob) -> Result<Answer, NoMemory>
     }
 }
 
-/// The capsule that is these bytes without its lead and its pads. Where it has none, its bytes are not
-/// copied.
+/// The capsule that is these bytes without its lead and its pads. Where it has none, its bytes are
+/// not copied.
 fn rebuilt(alloc: Global, bytes: Blob) -> Result<Answer, NoMemory>
     requires accepted { refusal bytes ≡ None }
     requires whole { length bytes ≤ image_size bytes }

@@ -107,8 +107,8 @@ const CALM: Faults<'static> = Faults {
     write: &[],
 };
 
-/// A run over the input `a.cap`: its words, the pieces of the input, and the status and text that it ends
-/// with.
+/// A run over the input `a.cap`: its words, the pieces of the input, and the status and text that
+/// it ends with.
 #[derive(Clone, Copy)]
 struct Case<'a> {
     name: &'a str,

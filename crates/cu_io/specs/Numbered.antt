@@ -1,5 +1,6 @@
 -- Objects in memory whose calls are numbered from 1, and fail at given numbers.
-use Rattle.std.specs.Prelude.{◌≡◌, ℕ, ◌+◌, ◌-◌, ◌^◌, ◌<◌, ◌++◌, ◌∷◌, ◌⊎◌, min, List, [], take, drop, length, Contains}
+use Rattle.std.specs.Prelude.{◌≡◌, ℕ, ◌+◌, ◌-◌, ◌^◌, ◌<◌, ◌++◌, ◌∷◌, ◌⊎◌, min, List, [], take, drop}
+use Rattle.std.specs.Prelude.{length, Contains}
 use Rattle.std.specs.Prelude.{◌↔◌, Some, Result, IsErr, IsErrOf, IfOk, OnErr}
 use Rattle.cu_io.specs.Seen.{Seen}
 use Rattle.cu_io.specs.Streams.{SourceSeen, SinkSeen}
@@ -90,13 +91,14 @@ pub record StrikesReading {T E : Type 0} (old new : Readable) (result : Result T
   pub failed : OnErr result (new.faults ≡ one_more old.faults)
 
 -- the writes are numbered, and one fails exactly where its number is among the planned ones
-pub record StrikesWriting {T : Type 0} (old new : Writable) (result : Result T SinkFault) : Type 0 where
-  pub struck : IsErrOf result sinks.Failed ↔ Contains old.fails (one_more old.calls)
-  pub calls : new.calls ≡ one_more old.calls
-  pub fails : new.fails ≡ old.fails
-  pub still : IfOk result (λ _. new.faults ≡ old.faults)
-  pub failed : IsErrOf result sinks.Failed → new.faults ≡ one_more old.faults
-  pub memory : IsErrOf result sinks.Memory → new.faults ≡ old.faults
+pub record StrikesWriting {T : Type 0} (old new : Writable) (result : Result T SinkFault) : Type 0
+  where
+    pub struck : IsErrOf result sinks.Failed ↔ Contains old.fails (one_more old.calls)
+    pub calls : new.calls ≡ one_more old.calls
+    pub fails : new.fails ≡ old.fails
+    pub still : IfOk result (λ _. new.faults ≡ old.faults)
+    pub failed : IsErrOf result sinks.Failed → new.faults ≡ one_more old.faults
+    pub memory : IsErrOf result sinks.Memory → new.faults ≡ old.faults
 
 -- what is seen of inputs in memory
 abbrev pub seen_of : Findable → Seen
@@ -106,14 +108,16 @@ seen_of s = record { named = Some s.named; asked = s.asked; faults = s.faults; t
 abbrev pub calm_of : Askable → Seen
 calm_of s = record { named = Some s.named; asked = s.asked; faults = 0; taken = s.taken }
 
--- the calls of open are numbered, and one fails exactly where its number is among the planned ones and
--- there was memory to keep the name
-pub record StrikesOpening {T : Type 0} (old new : Findable) (result : Result T OpenFault) : Type 0 where
-  pub fails : IsErrOf result Failed → Contains old.open_fails (one_more old.calls)
-  pub struck : Contains old.open_fails (one_more old.calls) → IsErrOf result Failed ⊎ IsErrOf result Memory
-  pub calls : new.calls ≡ one_more old.calls
-  pub still : IsErrOf result Failed ⊎ (new.faults ≡ old.faults)
-  pub failed : IsErrOf result Failed → new.faults ≡ one_more old.faults
+-- the calls of open are numbered, and one fails exactly where its number is among the planned ones
+-- and there was memory to keep the name
+pub record StrikesOpening {T : Type 0} (old new : Findable) (result : Result T OpenFault) : Type 0
+  where
+    pub fails : IsErrOf result Failed → Contains old.open_fails (one_more old.calls)
+    pub struck : Contains old.open_fails (one_more old.calls) → IsErrOf result Failed
+        ⊎ IsErrOf result Memory
+    pub calls : new.calls ≡ one_more old.calls
+    pub still : IsErrOf result Failed ⊎ (new.faults ≡ old.faults)
+    pub failed : IsErrOf result Failed → new.faults ≡ one_more old.faults
 
 -- the planned faults of opening and of reading stay
 abbrev pub KeepsPlan : Findable → Findable → Type 0

@@ -1,13 +1,15 @@
 -- What is seen of inputs at a moment, and how their calls move it on.
-use Rattle.std.specs.Prelude.{◌≡◌, ℕ, ◌+◌, ◌-◌, ◌^◌, ◌≤◌, ◌∷◌, [], ◌++◌, ◌⊎◌, min, List, Option, Result, IsErrOf}
+use Rattle.std.specs.Prelude.{◌≡◌, ℕ, ◌+◌, ◌-◌, ◌^◌, ◌≤◌, ◌∷◌, [], ◌++◌, ◌⊎◌, min, List, Option}
+use Rattle.std.specs.Prelude.{Result, IsErrOf}
 use Rattle.cu_base.specs.Causes.{HasCauseOf}
 use Rattle.cu_io.specs.Named.{Named, Opens}
 use Rattle.cu_io.specs.Streams.{SourceSeen}
 use Rattle.cu_io.specs.declared.inputs.OpenFault.{OpenFault}
 use Rattle.cu_io.specs.declared.inputs.OpenFault.TheVariants.{Failed, Memory}
 
--- the names and the bytes of each, where they are told; the names that were asked for, in order; how often
--- opening failed, and reading at the sources that came back; and how many bytes these sources gave
+-- the names and the bytes of each, where they are told; the names that were asked for, in order;
+-- how often opening failed, and reading at the sources that came back; and how many bytes these
+-- sources gave
 pub record Seen : Type 0 where
   pub named : Option Named
   pub asked : List (List ℕ)
@@ -35,7 +37,8 @@ pub record Asks {T : Type 0} (name : List ℕ) (before after : Seen) (result : R
 abbrev pub HasOpenCause : {T : Type 0} → Seen → Seen → Result T OpenFault → Type 0
 HasOpenCause before after result = HasCauseOf Failed before.faults after.faults result
 
--- a source that was opened: of the bytes of its name, where names are told, and nothing was read of it
+-- a source that was opened: of the bytes of its name, where names are told, and nothing was read of
+-- it
 pub record IsOpened (inputs : Seen) (name : List ℕ) (source : SourceSeen) : Type 0 where
   pub left : Opens inputs.named name source.left
   pub taken : source.taken ≡ 0

@@ -6,8 +6,8 @@ use Rattle.cu_base.specs.Causes.{HasCauseOf, RoseBy}
 use Rattle.cu_io.specs.declared.read.ReadFault.{ReadFault}
 use Rattle.cu_io.specs.declared.read.ReadFault.TheVariants.{TooLong}
 
--- what is seen of a source: the bytes that are left, where it tells them, how many it has given, and how
--- often it has failed
+-- what is seen of a source: the bytes that are left, where it tells them, how many it has given,
+-- and how often it has failed
 pub record SourceSeen : Type 0 where
   pub left : Option (List ℕ)
   pub taken : ℕ
@@ -24,9 +24,10 @@ CountsTaken before now result =
     MatchResult result (λ n. now ≡ min (before + n) (2 ^ 64 - 1)) (λ _. now ≡ before)
 
 -- a read gave the front of what was left, and counted it
-pub record Gives {E : Type 0} (old new : SourceSeen) (result : Result ℕ E) (out : List ℕ) : Type 0 where
-  pub bytes : ReadConsumes old.left new.left result out
-  pub counts : CountsTaken old.taken new.taken result
+pub record Gives {E : Type 0} (old new : SourceSeen) (result : Result ℕ E) (out : List ℕ) : Type 0
+  where
+    pub bytes : ReadConsumes old.left new.left result out
+    pub counts : CountsTaken old.taken new.taken result
 
 -- the count of faults never falls, and it rose where the call answered this fault
 abbrev pub ReadFails : {T E : Type 0} → E → SourceSeen → SourceSeen → Result T E → Type 0

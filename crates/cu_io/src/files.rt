@@ -11,8 +11,8 @@ use std::rt::Files;
 /// The most bytes that are read ahead of a file.
 const AHEAD_BYTES: usize = 65_536;
 
-/// A reader of std as a source: it tells what the reader tells of the bytes that remain. A read that
-/// answers an error is a counted fault.
+/// A reader of std as a source: it tells what the reader tells of the bytes that remain. A read
+/// that answers an error is a counted fault.
 #[derive(Drop)]
 pub struct FileSource<R: Read + Drop> {
     reader: R,
@@ -62,8 +62,8 @@ impl<R: Read + Drop> Source for FileSource<R> {
 }
 
 /// The files of the runtime, by path. They tell no content: what the operating system gives is
-/// trusted. A file that is not there is a counted fault. Small reads are served from bytes that were
-/// read ahead.
+/// trusted. A file that is not there is a counted fault. Small reads are served from bytes that
+/// were read ahead.
 #[derive(Drop)]
 pub struct FileInputs<'a, R: Files> {
     rt: &'a R,
@@ -135,8 +135,8 @@ fn len_of<F: OpenFile>(file: &F) -> u64 {
     }
 }
 
-/// A writer of std as a sink: it tells what the writer tells of its contents. A write that answers an
-/// error, or takes nothing of a nonempty piece, is a counted fault.
+/// A writer of std as a sink: it tells what the writer tells of its contents. A write that answers
+/// an error, or takes nothing of a nonempty piece, is a counted fault.
 #[derive(Drop)]
 pub struct StdSink<W: Write + Drop> {
     writer: W,

@@ -30,7 +30,8 @@ pub trait Inputs {
     /// every answer but Memory.
     fn open(&mut self, alloc: Global, name: &Text) -> Result<Self::Src, OpenFault>
         ensures ok { IfOk result (λ src. IsOpened (seen self.old) name.now (Self.Src.seen src)) }
-        ensures refused { IsErrOf result OpenFault.Missing → IsMissing (seen self.old).named name.now }
+        ensures refused { IsErrOf result OpenFault.Missing
+            → IsMissing (seen self.old).named name.now }
         ensures counts { Asks name.now (seen self.old) (seen self.new) result }
         ensures frame { Follows (seen self.old) (seen self.new) }
         ensures cause { HasOpenCause (seen self.old) (seen self.new) result };

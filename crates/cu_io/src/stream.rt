@@ -55,14 +55,16 @@ impl Room {
         ensures ok { IfOk result (λ n. TakesMany n (S.seen source.old) (S.seen source.new)) }
         ensures err { OnErr result (Takes [] (S.seen source.old) (S.seen source.new)) }
         ensures refused { IsErrOf result StreamFault.Ended → IsAtEnd (S.seen source.new).left }
-        ensures cause { ReadFails StreamFault.Failed (S.seen source.old) (S.seen source.new) result }
+        ensures cause { ReadFails StreamFault.Failed (S.seen source.old) (S.seen source.new) result
+            }
     {
         take_once(source, &mut self.piece[..most])
     }
 }
 
-/// A source that is read in order, of which only what is asked for is kept. Contracts see what is told of the
-/// source, and the place that it has come to: how many bytes came since the stream was made.
+/// A source that is read in order, of which only what is asked for is kept. Contracts see what is
+/// told of the source, and the place that it has come to: how many bytes came since the stream was
+/// made.
 pub struct Stream<S: Source> {
     source: S,
     room: Room,
@@ -108,8 +110,9 @@ impl<S: Source> Stream<S> {
         self.place
     }
 
-    /// Fills `out` with the next bytes. Ended comes where the source ends before; then what came stands at the
-    /// front of `out`. Failed comes only where the source's count rose; then some of the bytes were taken.
+    /// Fills `out` with the next bytes. Ended comes where the source ends before; then what came
+    /// stands at the front of `out`. Failed comes only where the source's count rose; then some of
+    /// the bytes were taken.
     pub fn fill(&mut self, out: &mut [u8]) -> Result<(), StreamFault>
         requires place { self.old.place + length out.old < 2 ^ 64 }
         ensures ok { OnOk result (Goes out.new self.old self.new) }
@@ -125,8 +128,8 @@ impl<S: Source> Stream<S> {
         Ok(())
     }
 
-    /// Passes by the next `n` bytes. Ended comes where the source ends before, Failed only where its count
-    /// rose; then some of the bytes were taken.
+    /// Passes by the next `n` bytes. Ended comes where the source ends before, Failed only where
+    /// its count rose; then some of the bytes were taken.
     pub fn pass(&mut self, n: u64) -> Result<(), StreamFault>
         requires place { self.old.place + n < 2 ^ 64 }
         ensures ok { OnOk result (Passes n self.old self.new) }
@@ -175,7 +178,8 @@ impl<S: Source> Stream<S> {
     }
 }
 
-/// Reads once, and takes at least one byte. It tells how many came, which stand at the front of `out`.
+/// Reads once, and takes at least one byte. It tells how many came, which stand at the front of
+/// `out`.
 fn take_once<S: Source>(source: &mut S, out: &mut [u8]) -> Result<usize, StreamFault>
     requires room { 0 < length out.old }
     ensures bound { ReadsAtMost result out.new }

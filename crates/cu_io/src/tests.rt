@@ -115,7 +115,8 @@ fn a_stream_goes_on_behind_a_failed_read(rt: HostRuntime) -> Result<(), Fail> {
     Ok(())
 }
 
-/// A pass of one byte more than one read takes, and a fill of more than is left: the second read fails.
+/// A pass of one byte more than one read takes, and a fill of more than is left: the second read
+/// fails.
 #[test]
 fn a_stream_fails_within_a_call(rt: HostRuntime) -> Result<(), Fail> {
     let mut passing = stream(&rt, &[0; 65_537], &[2])?;

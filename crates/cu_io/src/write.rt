@@ -13,8 +13,8 @@ pub enum WriteFault {
     Memory,
 }
 
-/// Appends all of the bytes. Write comes only where the sink's count rose. After a refusal a prefix of
-/// the bytes was written.
+/// Appends all of the bytes. Write comes only where the sink's count rose. After a refusal a prefix
+/// of the bytes was written.
 pub fn write_whole<K: Sink>(sink: &mut K, bytes: &[u8]) -> Result<(), WriteFault>
     ensures ok { OnOk result (AppendsAll (K.seen sink.old) (K.seen sink.new) bytes.now) }
     ensures err { AppendsFront (K.seen sink.old) (K.seen sink.new) bytes.now }

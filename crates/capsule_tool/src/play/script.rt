@@ -34,7 +34,8 @@ pub fn take_script<I: Inputs>(alloc: Global, name: &Text, inputs: &mut I) -> Res
 /// The script of files alone that the bytes say.
 fn script_of(alloc: Global, name: &Text, bytes: &Blob) -> Result<Script, Stop>
     requires { length bytes.now < 2 ^ 32 }
-    ensures steps { (board : BoardValue) → IsStep (script_next board name.now (script_said bytes.now))
+    ensures steps { (board : BoardValue)
+        → IsStep (script_next board name.now (script_said bytes.now))
         (λ script. events_work board script.items) result }
     ensures bound { IfOk result (λ script. length script.items ≤ MAX_EVENTS) }
     ensures rule { IfOk result (λ script. IsTrue (list_all is_of_files script.items)) }

@@ -3,7 +3,8 @@
 use super::*;
 use cu_base::put_u64;
 
-/// Two image items of version 1 behind the offset list: one of 32 bytes, and one of 32 and its byte.
+/// Two image items of version 1 behind the offset list: one of 32 bytes, and one of 32 and its
+/// byte.
 const SIZES_28_117: [u8; 12] = [0x1c, 0, 0, 0, 0, 0, 5, 0, 117, 0, 0, 0];
 
 const AT_56: [u8; 8] = [56, 0, 0, 0, 0, 0, 0, 0];
@@ -125,7 +126,8 @@ fn each_read_of_a_capsule_may_fail(rt: HostRuntime) -> Result<(), Fail> {
     Ok(())
 }
 
-/// A capsule of 2,621,436 bytes with 65,535 images of 32 bytes each, behind an offset list that ends at 524,288.
+/// A capsule of 2,621,436 bytes with 65,535 images of 32 bytes each, behind an offset list that
+/// ends at 524,288.
 fn many_images(alloc: Global) -> Result<Blob, NoMemory> {
     let sizes = [
         0x1c, 0, 0, 0, 0, 0, 5, 0, 0xfc, 0xff, 0x27, 0, 1, 0, 0, 0, 0, 0, 0xff, 0xff,

@@ -1,14 +1,19 @@
-//! Plays worked by hand: `k.toml` is a board, `script` a script, and `c1`, `c2` and `c4` are thin deliveries.
+//! Plays worked by hand: `k.toml` is a board, `script` a script, and `c1`, `c2` and `c4` are thin
+//! deliveries.
 
 use super::*;
 use cu_io::{NoFaultInputs, NoFaultSink};
 use reset_play::{Answer, BootEnd};
 
 /// A board of one device, which admits the images of `c1`, `c2` and `c4`.
-const ONE_DEVICE: [&str; 13] = [
+const ONE_DEVICE: [&str; 17] = [
     "bank = 65536",
     "result_max = 15",
-    "digests = [\"ba01d6e096772c57196360a62819b7505492f2c10b28fdb6eba111d257e50d58\", \"c2616a7c3677c9cbb5fa3935d7af65e641aa9c3eb8b81eeb3e12ab8e4ded38ee\", \"8b9791e1fa6675c295e4f792e624dbc914550db4b056c2f91661b19dfcbd2d04\"]",
+    "digests = [",
+    "\"ba01d6e096772c57196360a62819b7505492f2c10b28fdb6eba111d257e50d58\",",
+    "\"c2616a7c3677c9cbb5fa3935d7af65e641aa9c3eb8b81eeb3e12ab8e4ded38ee\",",
+    "\"8b9791e1fa6675c295e4f792e624dbc914550db4b056c2f91661b19dfcbd2d04\",",
+    "]",
     "[[device]]",
     "name = \"sys\"",
     "type = \"aaaaaaaa-0000-0000-0000-000000000001\"",
@@ -96,7 +101,8 @@ fn given(alloc: Global, board: Blob, script: &[&str]) -> Result<NoFaultInputs, N
     Ok(inputs)
 }
 
-/// A play: its board, the name and the lines of its script, and the status and lines that it ends with.
+/// A play: its board, the name and the lines of its script, and the status and lines that it ends
+/// with.
 #[derive(Clone, Copy)]
 struct Play<'a> {
     name: &'a str,
@@ -221,7 +227,7 @@ fn a_trace_tells_each_event(rt: HostRuntime) -> Result<(), Fail> {
 }
 
 /// The board of one device with another second line.
-fn with_results(line: &str) -> [&str; 13] {
+fn with_results(line: &str) -> [&str; 17] {
     let mut board = ONE_DEVICE;
     board[1] = line;
     board
@@ -280,9 +286,9 @@ fn faulty_scripts_are_told(rt: HostRuntime) -> Result<(), Fail> {
 
 #[test]
 fn what_is_played_later_is_told(rt: HostRuntime) -> Result<(), Fail> {
-    let mut board = [""; 23];
-    board[..13].copy_from_slice(&ONE_DEVICE);
-    board[13..].copy_from_slice(&SECOND_DEVICE);
+    let mut board = [""; 27];
+    board[..17].copy_from_slice(&ONE_DEVICE);
+    board[17..].copy_from_slice(&SECOND_DEVICE);
     let thick = ["drop a c1", "drop b thick", "drop c none"];
     let missing = ["drop a c1", "drop b none", "drop c thick"];
     expect_play(

@@ -1,6 +1,7 @@
 ghost use Rattle.std.specs.Prelude.{◌≡◌, ◌∷◌, [], ◌++◌, Some, IfOk, IsErrOf, OnOk, OnErr};
 ghost use Rattle.cu_io.specs.Named.{LacksName, IsMissing};
-ghost use Rattle.cu_io.specs.Numbered.{seen_of, source_seen, unread, unasked, with_input, StrikesOpening, KeepsPlan};
+ghost use Rattle.cu_io.specs.Numbered.{seen_of, source_seen, unread, unasked, with_input};
+ghost use Rattle.cu_io.specs.Numbered.{StrikesOpening, KeepsPlan};
 ghost use Rattle.cu_io.specs.Seen.{Follows, Asks, IsOpened, HasOpenCause, TakesBack};
 
 use super::known::Known;
@@ -9,8 +10,8 @@ use cu_base::{Blob, NoMemory, Numbers, Text};
 use std::alloc::Global;
 use std::marker::Model;
 
-/// Inputs in memory. Contracts see the names and their bytes, the names asked for, the numbers of the
-/// calls of `open` that fail, those of the reads that fail at each source, and the counts.
+/// Inputs in memory. Contracts see the names and their bytes, the names asked for, the numbers of
+/// the calls of `open` that fail, those of the reads that fail at each source, and the counts.
 #[derive(Drop)]
 pub struct MemInputs {
     known: Known,
@@ -37,8 +38,8 @@ impl Model for MemInputs {
 }
 
 impl MemInputs {
-    /// No inputs. The calls of `open` of the numbers `open_fails`, from 1, answer Failed, and each source
-    /// fails at its own reads of the numbers `read_fails`.
+    /// No inputs. The calls of `open` of the numbers `open_fails`, from 1, answer Failed, and each
+    /// source fails at its own reads of the numbers `read_fails`.
     pub fn new(alloc: Global, open_fails: Numbers, read_fails: Numbers) -> MemInputs
         ensures { result ≡ unasked open_fails.items read_fails.items }
     {
@@ -70,7 +71,8 @@ impl Inputs for MemInputs {
 
     fn open(&mut self, alloc: Global, name: &Text) -> Result<MemSource, OpenFault>
         ensures ok { IfOk result (λ src. IsOpened (seen_of self.old) name.now (source_seen src)) }
-        ensures refused { IsErrOf result OpenFault.Missing → IsMissing (Some self.old.named) name.now }
+        ensures refused { IsErrOf result OpenFault.Missing
+            → IsMissing (Some self.old.named) name.now }
         ensures counts { Asks name.now (seen_of self.old) (seen_of self.new) result }
         ensures frame { Follows (seen_of self.old) (seen_of self.new) }
         ensures cause { HasOpenCause (seen_of self.old) (seen_of self.new) result }

@@ -110,8 +110,8 @@ impl Sink for NoFaultSink {
     }
 }
 
-/// Inputs in memory that never fail. Contracts see the names and their bytes, the names asked for, and how
-/// many bytes were taken.
+/// Inputs in memory that never fail. Contracts see the names and their bytes, the names asked for,
+/// and how many bytes were taken.
 #[derive(Drop)]
 pub struct NoFaultInputs {
     known: Known,

@@ -7,8 +7,8 @@ use cu_base::{Blob, Numbers};
 use std::alloc::Global;
 use std::marker::Model;
 
-/// A sink in memory. Contracts see what was written, the numbers of the writes that fail, how many writes
-/// there were and how many failed.
+/// A sink in memory. Contracts see what was written, the numbers of the writes that fail, how many
+/// writes there were and how many failed.
 #[derive(Drop)]
 pub struct MemSink {
     written: Blob,
@@ -31,7 +31,8 @@ impl Model for MemSink {
 }
 
 impl MemSink {
-    /// A sink to which nothing was written. Its writes of the numbers `fails`, from 1, answer Failed.
+    /// A sink to which nothing was written. Its writes of the numbers `fails`, from 1, answer
+    /// Failed.
     pub fn new(alloc: Global, fails: Numbers) -> MemSink
         ensures { result ≡ unwritten fails.items }
     {
@@ -60,7 +61,8 @@ impl Sink for MemSink {
     fn write(&mut self, bytes: &[u8]) -> Result<usize, SinkFault>
         ensures bound { TakesPiece result bytes.now }
         ensures writes { Writes (sink_seen self.old) (sink_seen self.new) result bytes.now }
-        ensures cause { WriteFails SinkFault.Failed (sink_seen self.old) (sink_seen self.new) result }
+        ensures cause { WriteFails SinkFault.Failed (sink_seen self.old) (sink_seen self.new) result
+            }
 
         ensures ok { IfOk result (λ n. n ≡ length bytes.now) }
         ensures strikes { StrikesWriting self.old self.new result }

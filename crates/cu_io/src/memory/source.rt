@@ -9,8 +9,8 @@ use crate::Source;
 use cu_base::{Blob, Failed, Numbers};
 use std::marker::Model;
 
-/// A source in memory. Contracts see what is left, the numbers of the reads that fail, how many reads
-/// there were, how many bytes they gave and how many failed.
+/// A source in memory. Contracts see what is left, the numbers of the reads that fail, how many
+/// reads there were, how many bytes they gave and how many failed.
 #[derive(Drop)]
 pub struct MemSource {
     reader: Reader,

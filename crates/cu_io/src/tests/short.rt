@@ -25,7 +25,8 @@ impl Read for ShortReader<'_> {
     }
 }
 
-/// A writer that fails at the call of a number, from 1, and one that takes nothing where it takes 0.
+/// A writer that fails at the call of a number, from 1, and one that takes nothing where it takes
+/// 0.
 #[derive(Drop)]
 struct ShortWriter {
     written: Blob,

@@ -16,7 +16,8 @@ pub returns-in_ok-read_fault-in-Err-clause-steps :
 returns-in_ok-read_fault-in-Err-clause-steps g c = λ next.
     read_answered MAX_CAPSULE_BYTES c.args.name.now (λ bytes. next (verdict_of bytes))
     (g.I.Inputs.seen c.args.inputs.now) (g.I.Inputs.seen c.judge_named.new.inputs)
-    c.in-Err.fault c.in_ok-read_fault-in-Err.field-0 c.in-Err.ensures.reads c.in_ok-read_fault-in-Err.ensures
+    c.in-Err.fault c.in_ok-read_fault-in-Err.field-0 c.in-Err.ensures.reads
+    c.in_ok-read_fault-in-Err.ensures
 
 pub returns-in_err-read_fault-in-Err-clause-steps :
     goal.returns-in_err-read_fault-in-Err-clause-steps

@@ -60,7 +60,8 @@ returns-in_err-loaded-clause-steps g c =
     (c.take_script.ensures.frame.named ∙ c.take_board.ensures.frame.named)
     (names_stop c.in_ok-board.board events c.as_slice.result.now (seen c.take_script.new.inputs)
     (seen c.take_inputs.new.inputs) p.0
-    (c.as_slice.ensures ∙ c.in_ok-names.ensures.value) (rw p.2 (c.in_err-loaded.ensures.steps events))))
+    (c.as_slice.ensures ∙ c.in_ok-names.ensures.value)
+    (rw p.2 (c.in_err-loaded.ensures.steps events))))
 
 pub returns-in_err-found-clause-steps : goal.returns-in_err-found-clause-steps
 returns-in_err-found-clause-steps g c =

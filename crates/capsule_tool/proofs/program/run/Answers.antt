@@ -25,7 +25,8 @@ returns-in-Ok-clause-refused g c =
 
 pub returns-in-Ok-clause-usage : goal.returns-in-Ok-clause-usage
 returns-in-Ok-clause-usage g c =
-    λ is. usage_run _ c.args.words.now _ _ _ _ (g.O.Sink.seen c.args.out.now) (g.O.Sink.seen c.say.new.out)
+    λ is. usage_run _ c.args.words.now _ _ _ _ (g.O.Sink.seen c.args.out.now)
+    (g.O.Sink.seen c.say.new.out)
     c.in-Ok.ensures.ok c.say.ensures.writes is
 
 pub returns-in-Ok-clause-faulty : goal.returns-in-Ok-clause-faulty
@@ -37,12 +38,14 @@ returns-in-Ok-clause-faulty g c =
 
 pub returns-in-Ok-clause-unread : goal.returns-in-Ok-clause-unread
 returns-in-Ok-clause-unread g c =
-    λ is. unread_run _ c.args.words.now _ _ _ _ (g.O.Sink.seen c.args.out.now) (g.O.Sink.seen c.say.new.out)
+    λ is. unread_run _ c.args.words.now _ _ _ _ (g.O.Sink.seen c.args.out.now)
+    (g.O.Sink.seen c.say.new.out)
     c.in-Ok.ensures.ok c.say.ensures.writes is
 
 pub returns-in-Ok-clause-unwritten : goal.returns-in-Ok-clause-unwritten
 returns-in-Ok-clause-unwritten g c =
-    λ is. unwritten_run _ c.args.words.now _ _ _ _ (g.O.Sink.seen c.args.out.now) (g.O.Sink.seen c.say.new.out)
+    λ is. unwritten_run _ c.args.words.now _ _ _ _ (g.O.Sink.seen c.args.out.now)
+    (g.O.Sink.seen c.say.new.out)
     c.in-Ok.ensures.ok c.say.ensures.writes is
 
 pub returns-in-Ok-clause-long : goal.returns-in-Ok-clause-long
@@ -60,14 +63,17 @@ returns-in-Ok-clause-later g c =
 
 pub returns-in-Ok-clause-bound : goal.returns-in-Ok-clause-bound
 returns-in-Ok-clause-bound g c =
-    small_run c.in-Ok.found _ (g.O.Sink.seen c.args.out.now) (g.O.Sink.seen c.say.new.out) c.say.ensures.writes
+    small_run c.in-Ok.found _ (g.O.Sink.seen c.args.out.now) (g.O.Sink.seen c.say.new.out)
+    c.say.ensures.writes
 
 pub returns-in-Ok-clause-found : goal.returns-in-Ok-clause-found
 returns-in-Ok-clause-found g c =
-    rw c.say.ensures.value (found_run _ c.args.words.now _ _ _ _ (g.O.Sink.seen c.args.out.now) (g.O.Sink.seen c.say.new.out)
+    rw c.say.ensures.value (found_run _ c.args.words.now _ _ _ _ (g.O.Sink.seen c.args.out.now)
+    (g.O.Sink.seen c.say.new.out)
     c.in-Ok.ensures.ok c.say.ensures.writes)
 
 pub returns-in-Ok-clause-traced : goal.returns-in-Ok-clause-traced
 returns-in-Ok-clause-traced g c =
-    rw c.say.ensures.value (bare_run _ c.args.words.now _ _ _ _ (g.O.Sink.seen c.args.out.now) (g.O.Sink.seen c.say.new.out)
+    rw c.say.ensures.value (bare_run _ c.args.words.now _ _ _ _ (g.O.Sink.seen c.args.out.now)
+    (g.O.Sink.seen c.say.new.out)
     c.in-Ok.ensures.ok c.say.ensures.writes)

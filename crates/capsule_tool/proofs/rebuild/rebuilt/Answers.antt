@@ -11,13 +11,17 @@ use Rattle.capsule_tool.proofs.rebuild.rebuilt.Goals as goal
 abbrev done_with : List ℕ → Answer
 done_with text = record { status = Done; text = text }
 
-same_bytes : (bytes : List ℕ) → length bytes ≤ image_size bytes → spelling (emptied (capsule_of bytes)) ≡ take (image_size bytes) bytes → spelling (emptied (capsule_of bytes)) ≡ bytes
+same_bytes : (bytes : List ℕ) → length bytes ≤ image_size bytes
+    → spelling (emptied (capsule_of bytes)) ≡ take (image_size bytes) bytes
+    → spelling (emptied (capsule_of bytes)) ≡ bytes
 same_bytes bytes le e = e ∙ take_all (image_size bytes) bytes le
 
 pub returns-then-is_rebuilt : goal.returns-then-is_rebuilt
 returns-then-is_rebuilt c =
-    let same = subst (λ (b : List ℕ). spelling (emptied (capsule_of b)) ≡ take (image_size b) b) c.as_slice.ensures (c.is_rebuilt.ensures.0 c.if-is_rebuilt.true) in
+    let same = subst (λ (b : List ℕ). spelling (emptied (capsule_of b)) ≡ take (image_size b) b)
+    c.as_slice.ensures (c.is_rebuilt.ensures.0 c.if-is_rebuilt.true) in
     ap done_with (sym (same_bytes c.args.bytes c.requires.whole same))
 
 pub returns-in-Ok : goal.returns-in-Ok
-returns-in-Ok c = ap done_with (c.in-Ok.ensures.rebuilt ∙ ap (λ (b : List ℕ). spelling (emptied (capsule_of b))) c.as_slice-2.ensures)
+returns-in-Ok c = ap done_with (c.in-Ok.ensures.rebuilt
+    ∙ ap (λ (b : List ℕ). spelling (emptied (capsule_of b))) c.as_slice-2.ensures)
