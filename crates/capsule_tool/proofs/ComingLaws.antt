@@ -1,71 +1,86 @@
 -- How the reading of inputs comes from name to name.
-use Rattle.std.proofs.Common.{◌≡◌, ℕ, suc, ◌+◌, ◌<◌, ◌≤◌, List, [], ◌∷◌, ◌++◌, length, map, take, drop, get_or, Option, sym, ◌∙◌, ap, add-one}
+use Rattle.std.proofs.Common.{◌≡◌, ℕ, suc, ◌+◌, ◌<◌, ◌≤◌, List, [], ◌∷◌, ◌++◌, length, map, take}
+use Rattle.std.proofs.Common.{drop, get_or, Option, sym, ◌∙◌, ap, add-one}
 use Rattle.std.proofs.Math.Seq.{drop-cons}
 use Rattle.std.proofs.lemmas.List.{take_more, drop_all}
 use Rattle.bench_model.specs.Boards.{BoardValue}
 use Rattle.cu_io.specs.Named.{Named}
 use Rattle.reset_play.specs.ScriptInputs.{inputs_of}
 use Rattle.reference_machine.specs.declared.event.Event.{Event}
-use Rattle.capsule_tool.specs.Findings.{Finding}
-use Rattle.capsule_tool.specs.Plays.{input_work, inputs_work, played}
-use Rattle.capsule_tool.specs.Readings.{Seen}
-use Rattle.capsule_tool.specs.Works.{Work, ComesTo, MayFind, MayStop}
+use Rattle.capsule_tool.specs.Plays.{input_work, inputs_work, events_work, played}
+use Rattle.cu_io.specs.Seen.{Seen}
+use Rattle.capsule_tool.specs.Steps.{StopsAt}
+use Rattle.capsule_tool.specs.Works.{Work, ComesTo}
 use Rattle.capsule_tool.specs.Works.Work.{Finds}
-use Rattle.capsule_tool.proofs.WorkLaws.{through, find_through, stop_through, stays}
+use Rattle.capsule_tool.specs.declared.stop.Stop.{Stop}
+use Rattle.capsule_tool.proofs.WorkLaws.{through, then_stops, stays}
 
 -- the work on these names has come to those from the i-th on, where the others are loaded
-pub record HasCome (named : Option Named) (board : BoardValue) (names : List (List ℕ)) (before : Seen) (loaded : Named) (sum i : ℕ) (after : Seen) : Type 0 where
-  pub comes : (events : List Event) → ComesTo named (inputs_work board events [] 0 names) before (inputs_work board events loaded sum (drop i names)) after
+pub record HasCome (named : Option Named) (board : BoardValue) (names : List (List ℕ))
+    (before : Seen) (loaded : Named) (sum i : ℕ) (after : Seen) : Type 0 where
+  pub comes : (events : List Event)
+      → ComesTo named (inputs_work board events [] 0 names) before
+      (inputs_work board events loaded sum (drop i names)) after
 
-pub come_start : (named : Option Named) (board : BoardValue) (names : List (List ℕ)) (b : Seen) (loaded : Named) → loaded ≡ [] → HasCome named board names b loaded 0 0 b
-come_start named board names b loaded is = record { comes = λ events. rw is (stays named (inputs_work board events [] 0 names) b) }
+pub come_start : (named : Option Named) (board : BoardValue) (names : List (List ℕ)) (b : Seen)
+    (loaded : Named) → loaded ≡ [] → HasCome named board names b loaded 0 0 b
+come_start named board names b loaded is = record {
+  comes =
+      λ events. rw is (stays named (inputs_work board events [] 0 names) b);
+}
 
 -- the work on the names from a place on, where one stands there
-opens : (board : BoardValue) (events : List Event) (loaded : Named) (sum i : ℕ) (names : List (List ℕ)) (name : List ℕ) → drop i names ≡ name ∷ drop (i + 1) names
-    → inputs_work board events loaded sum (drop i names) ≡ input_work board loaded sum name (λ loaded' sum'. inputs_work board events loaded' sum' (drop (i + 1) names))
+opens : (board : BoardValue) (events : List Event) (loaded : Named) (sum i : ℕ)
+    (names : List (List ℕ)) (name : List ℕ) → drop i names ≡ name ∷ drop (i + 1) names
+    → inputs_work board events loaded sum (drop i names)
+    ≡ input_work board loaded sum name (λ loaded' sum'. inputs_work board events loaded' sum'
+    (drop (i + 1) names))
 opens board events loaded sum i names name is = ap (inputs_work board events loaded sum) is
 
-pub come_on : (named' named : Option Named) (board : BoardValue) (names : List (List ℕ)) (b : Seen) (loaded : Named) (sum i : ℕ) (m : Seen)
+pub come_on : (named' named : Option Named) (board : BoardValue) (names : List (List ℕ)) (b : Seen)
+    (loaded : Named) (sum i : ℕ) (m : Seen)
     (name : List ℕ) (loaded' : Named) (sum' : ℕ) (a : Seen)
     → HasCome named board names b loaded sum i m → drop i names ≡ name ∷ drop (i + 1) names
-    → named' ≡ named → ((rest : Named → ℕ → Work) → ComesTo named' (input_work board loaded sum name rest) m (rest loaded' sum') a)
+    → named' ≡ named → ((rest : Named → ℕ → Work)
+    → ComesTo named' (input_work board loaded sum name rest) m (rest loaded' sum') a)
     → HasCome named board names b loaded' sum' (i + 1) a
 come_on named' named board names b loaded sum i m name loaded' sum' a come is same then = record {
   comes = λ events.
-      through named (inputs_work board events [] 0 names) b _ m _ a (rw (opens board events loaded sum i names name is) at (come.comes events))
+      through named (inputs_work board events [] 0 names) b _ m _ a
+      (rw (opens board events loaded sum i names name is) at (come.comes events))
       (rw same at (then (λ loaded sum. inputs_work board events loaded sum (drop (i + 1) names))));
 }
 
-pub come_found : (named' named : Option Named) (board : BoardValue) (names : List (List ℕ)) (b : Seen) (loaded : Named) (sum i : ℕ) (m : Seen)
-    (name : List ℕ) (a : Seen) (finding : Finding)
-    → HasCome named board names b loaded sum i m → drop i names ≡ name ∷ drop (i + 1) names
-    → named' ≡ named → ((rest : Named → ℕ → Work) → MayFind named' (input_work board loaded sum name rest) m a finding)
-    → (events : List Event) → MayFind named (inputs_work board events [] 0 names) b a finding
-come_found named' named board names b loaded sum i m name a finding come is same then events =
-    find_through named (inputs_work board events [] 0 names) b _ m a finding (rw (opens board events loaded sum i names name is) at (come.comes events))
-    (rw same at (then (λ loaded sum. inputs_work board events loaded sum (drop (i + 1) names))))
+pub come_stopped : (board : BoardValue) (names : List (List ℕ)) (b : Seen) (loaded : Named)
+    (sum i : ℕ) (m : Seen) (name : List ℕ) (a : Seen) (stop : Stop)
+    → HasCome b.named board names b loaded sum i m → drop i names ≡ name ∷ drop (i + 1) names
+    → m.named ≡ b.named
+    → ((rest : Named → ℕ → Work) → StopsAt (input_work board loaded sum name rest) m a stop)
+    → (events : List Event) → StopsAt (inputs_work board events [] 0 names) b a stop
+come_stopped board names b loaded sum i m name a stop come is same stops events =
+    then_stops (inputs_work board events [] 0 names) b _ m a stop
+    (rw (opens board events loaded sum i names name is) at (come.comes events)) same
+    (stops (λ loaded sum. inputs_work board events loaded sum (drop (i + 1) names)))
 
-pub come_stopped : (named' named : Option Named) (board : BoardValue) (names : List (List ℕ)) (b : Seen) (loaded : Named) (sum i : ℕ) (m : Seen)
-    (name : List ℕ) (a : Seen)
-    → HasCome named board names b loaded sum i m → drop i names ≡ name ∷ drop (i + 1) names
-    → named' ≡ named → ((rest : Named → ℕ → Work) → MayStop named' (input_work board loaded sum name rest) m a)
-    → (events : List Event) → MayStop named (inputs_work board events [] 0 names) b a
-come_stopped named' named board names b loaded sum i m name a come is same then events =
-    stop_through named (inputs_work board events [] 0 names) b _ m a (rw (opens board events loaded sum i names name is) at (come.comes events))
-    (rw same at (then (λ loaded sum. inputs_work board events loaded sum (drop (i + 1) names))))
-
-pub come_done : (named : Option Named) (board : BoardValue) (names : List (List ℕ)) (b : Seen) (loaded : Named) (sum i : ℕ) (a : Seen)
+pub come_done : (named : Option Named) (board : BoardValue) (names : List (List ℕ)) (b : Seen)
+    (loaded : Named) (sum i : ℕ) (a : Seen)
     → HasCome named board names b loaded sum i a → drop i names ≡ []
-    → (events : List Event) → ComesTo named (inputs_work board events [] 0 names) b (Finds (played board events loaded)) a
+    → (events : List Event)
+    → ComesTo named (inputs_work board events [] 0 names) b (Finds (played board events loaded))
+    a
 come_done named board names b loaded sum i a come is events = rw is at (come.comes events)
 
 -- places
-pub item_drop : (names : List (List ℕ)) (i : ℕ) (name : List ℕ) → i < length names → name ≡ get_or names i name → drop i names ≡ name ∷ drop (i + 1) names
+pub item_drop : (names : List (List ℕ)) (i : ℕ) (name : List ℕ) → i < length names
+    → name ≡ get_or names i name → drop i names ≡ name ∷ drop (i + 1) names
 item_drop names i name low is =
-    drop-cons names i name low ∙ (ap (λ (x : List ℕ). x ∷ drop (suc i) names) (sym is) ∙ ap (λ k. name ∷ drop k names) (sym (add-one i)))
+    drop-cons names i name low ∙ (ap (λ (x : List ℕ). x ∷ drop (suc i) names) (sym is)
+    ∙ ap (λ k. name ∷ drop k names) (sym (add-one i)))
 
-pub item_take : (names : List (List ℕ)) (i : ℕ) (name : List ℕ) (loaded loaded' : Named) → i < length names → name ≡ get_or names i name
-    → map (λ pair. pair.0) loaded' ≡ map (λ pair. pair.0) loaded ++ name ∷ [] → map (λ pair. pair.0) loaded ≡ take i names
+pub item_take : (names : List (List ℕ)) (i : ℕ) (name : List ℕ) (loaded loaded' : Named)
+    → i < length names → name ≡ get_or names i name
+    → map (λ pair. pair.0) loaded' ≡ map (λ pair. pair.0) loaded ++ name ∷ []
+    → map (λ pair. pair.0) loaded ≡ take i names
     → map (λ pair. pair.0) loaded' ≡ take (i + 1) names
 item_take names i name loaded loaded' low is more before =
     more ∙ (ap (λ (l : List (List ℕ)). l ++ name ∷ []) before
@@ -75,14 +90,14 @@ pub drop_past : (names : List (List ℕ)) (i : ℕ) → length names ≤ i → d
 drop_past names i past = drop_all i names past
 
 -- the names of a script
-pub names_come : (named : Option Named) (board : BoardValue) (events : List Event) (names : List (List ℕ)) (b : Seen) (w : Work) (a : Seen) → names ≡ inputs_of events
-    → ComesTo named (inputs_work board events [] 0 names) b w a → ComesTo named (inputs_work board events [] 0 (inputs_of events)) b w a
+pub names_come : (named : Option Named) (board : BoardValue) (events : List Event)
+    (names : List (List ℕ)) (b : Seen) (w : Work) (a : Seen) → names ≡ inputs_of events
+    → ComesTo named (inputs_work board events [] 0 names) b w a
+    → ComesTo named (events_work board events) b w a
 names_come named board events names b w a is comes = rw is at comes
 
-pub names_find : (named : Option Named) (board : BoardValue) (events : List Event) (names : List (List ℕ)) (b a : Seen) (finding : Finding) → names ≡ inputs_of events
-    → MayFind named (inputs_work board events [] 0 names) b a finding → MayFind named (inputs_work board events [] 0 (inputs_of events)) b a finding
-names_find named board events names b a finding is found = rw is at found
-
-pub names_stop : (named : Option Named) (board : BoardValue) (events : List Event) (names : List (List ℕ)) (b a : Seen) → names ≡ inputs_of events
-    → MayStop named (inputs_work board events [] 0 names) b a → MayStop named (inputs_work board events [] 0 (inputs_of events)) b a
-names_stop named board events names b a is stops = rw is at stops
+pub names_stop : (board : BoardValue) (events : List Event) (names : List (List ℕ)) (b a : Seen)
+    (stop : Stop) → names ≡ inputs_of events
+    → StopsAt (inputs_work board events [] 0 names) b a stop
+    → StopsAt (events_work board events) b a stop
+names_stop board events names b a stop is stops = rw is at stops

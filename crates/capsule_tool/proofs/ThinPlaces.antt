@@ -1,5 +1,7 @@
--- The numbers of a thin delivery at their places: in the whole, in the body of the capsule and in its one item.
-use Rattle.std.proofs.Common.{◌≡◌, ℕ, ◌+◌, ◌-◌, ◌≤◌, true, List, length, take, drop, sym, ap, ◌∙◌, arith}
+-- The numbers of a thin delivery at their places: in the whole, in the body of the capsule and in
+-- its one item.
+use Rattle.std.proofs.Common.{◌≡◌, ℕ, ◌+◌, ◌-◌, ◌≤◌, true, List, length, take, drop, sym, ap, ◌∙◌}
+use Rattle.std.proofs.Common.{arith}
 use Rattle.std.proofs.lemmas.Bool.{and_parts, and_from, eqb-true, eq-eqb, le-leb}
 use Rattle.std.proofs.lemmas.List.{take_all, length-drop, drop-drop}
 use Rattle.cu_base.specs.Fields.{field, number, number_at}
@@ -9,10 +11,12 @@ use Rattle.reset_play.specs.Thin.{is_thin}
 
 -- ---- what is left behind a place
 
-pub number_behind : (b : List ℕ) (from at size : ℕ) → number_at (drop from b) at size ≡ number_at b (from + at) size
+pub number_behind : (b : List ℕ) (from at size : ℕ)
+    → number_at (drop from b) at size ≡ number_at b (from + at) size
 number_behind b from at size = ap (λ (l : List ℕ). number (take size l)) (drop-drop at from b)
 
-pub field_behind : (b : List ℕ) (from at size : ℕ) → field (drop from b) at size ≡ field b (from + at) size
+pub field_behind : (b : List ℕ) (from at size : ℕ)
+    → field (drop from b) at size ≡ field b (from + at) size
 field_behind b from at size = ap (take size) (drop-drop at from b)
 
 pub field_to_end : (b : List ℕ) (at : ℕ) → field b at (length b - at) ≡ drop at b
@@ -60,13 +64,19 @@ numbers_of b e =
 pub thin_by : (b : List ℕ) → AreThinNumbers b → is_thin b ≡ true
 thin_by b n =
     let long : 92 ≤ length b = omega (arith, n.parts) in
-    let header = and_from _ _ (and_from _ _ n.guid (eq-eqb _ _ n.header_size)) (eq-eqb _ _ n.size) in
-    let body = and_from _ _ (and_from _ _ (and_from _ _ (eq-eqb _ _ n.fmp_version) (eq-eqb _ _ n.drivers)) (eq-eqb _ _ n.images)) (eq-eqb _ _ n.offset) in
-    let image = and_from _ _ (and_from _ _ (eq-eqb _ _ n.version) (eq-eqb _ _ n.support)) (eq-eqb _ _ n.parts) in
+    let header = and_from _ _ (and_from _ _ n.guid (eq-eqb _ _ n.header_size))
+    (eq-eqb _ _ n.size) in
+    let body =
+    and_from _ _ (and_from _ _ (and_from _ _ (eq-eqb _ _ n.fmp_version) (eq-eqb _ _ n.drivers))
+    (eq-eqb _ _ n.images)) (eq-eqb _ _ n.offset) in
+    let image = and_from _ _ (and_from _ _ (eq-eqb _ _ n.version) (eq-eqb _ _ n.support))
+    (eq-eqb _ _ n.parts) in
     and_from _ _ (and_from _ _ (and_from _ _ (le-leb _ _ long) header) body) image
 
-pub body_behind : (b : List ℕ) → header_size b ≡ 28 → image_size b ≡ length b → body_of b ≡ drop 28 b
-body_behind b head size = ap (λ (n : ℕ). field b n (image_size b - n)) head ∙ ap (λ (n : ℕ). field b 28 (n - 28)) size ∙ field_to_end b 28
+pub body_behind : (b : List ℕ) → header_size b ≡ 28 → image_size b ≡ length b
+    → body_of b ≡ drop 28 b
+body_behind b head size = ap (λ (n : ℕ). field b n (image_size b - n)) head
+    ∙ ap (λ (n : ℕ). field b 28 (n - 28)) size ∙ field_to_end b 28
 
 -- ---- the body and the item
 
@@ -95,13 +105,21 @@ pub item_numbers : (b : List ℕ) → AreThinNumbers b → IsThinItem (drop 44 b
 item_numbers b n = record {
   version = number_behind b 44 0 4 ∙ n.version;
   support = number_behind b 44 40 8 ∙ n.support;
-  parts = omega (arith, n.parts, length-drop 44 b, number_behind b 44 24 4, number_behind b 44 28 4);
+  parts = omega (
+    arith,
+    n.parts,
+    length-drop 44 b,
+    number_behind b 44 24 4,
+    number_behind b 44 28
+        4,
+  );
 }
 
 pub item_behind : (b : List ℕ) → drop 16 (drop 28 b) ≡ drop 44 b
 item_behind b = drop-drop 16 28 b
 
-pub numbers_by : (b : List ℕ) → is_fmp_guid (field b 0 16) ≡ true → header_size b ≡ 28 → image_size b ≡ length b → IsThinPlaced (drop 28 b) → IsThinItem (drop 44 b) → AreThinNumbers b
+pub numbers_by : (b : List ℕ) → is_fmp_guid (field b 0 16) ≡ true → header_size b ≡ 28
+    → image_size b ≡ length b → IsThinPlaced (drop 28 b) → IsThinItem (drop 44 b) → AreThinNumbers b
 numbers_by b guid head size body item = record {
   guid = guid;
   header_size = head;
@@ -112,5 +130,12 @@ numbers_by b guid head size body item = record {
   offset = sym (number_behind b 28 8 8) ∙ body.offset;
   version = sym (number_behind b 44 0 4) ∙ item.version;
   support = sym (number_behind b 44 40 8) ∙ item.support;
-  parts = omega (arith, item.parts, length-drop 44 b, number_behind b 44 24 4, number_behind b 44 28 4);
+  parts = omega (
+    arith,
+    item.parts,
+    length-drop 44 b,
+    number_behind b 44 24 4,
+    number_behind b 44 28
+        4,
+  );
 }

@@ -1,5 +1,6 @@
 -- The verdict on a file, by its first bytes and by what was found of its body.
-use Rattle.std.proofs.Common.{◌≡◌, ℕ, ◌+◌, ◌-◌, ◌<◌, ◌≤◌, min, List, ◌++◌, length, take, length-append, length-take, refl, sym, ap, ◌∙◌, arith}
+use Rattle.std.proofs.Common.{◌≡◌, ℕ, ◌+◌, ◌-◌, ◌<◌, ◌≤◌, min, List, ◌++◌, length, take}
+use Rattle.std.proofs.Common.{length-append, length-take, refl, sym, ap, ◌∙◌, arith}
 use Rattle.std.specs.Prelude.{Option, None, Result, Ok, IsErrOf}
 use Rattle.std.specs.Io.KnownBytes.{IsAtEnd}
 use Rattle.std.proofs.lemmas.Bool.{cond-true, cond-false, lt-ltb, le-ltb}
@@ -15,51 +16,70 @@ use Rattle.capsule_grammar.specs.declared.refusal.Refusal.{Refusal}
 use Rattle.capsule_grammar.specs.declared.refusal.Why.{Why}
 use Rattle.capsule_grammar.proofs.FrontLemmas.{number_least}
 use Rattle.cu_base.proofs.Rows.{first-none}
-use Rattle.capsule_tool.specs.Check.{verdict_by, verdict_of}
+use Rattle.capsule_tool.specs.Verdicts.{verdict_by, verdict_of}
 use Rattle.capsule_tool.specs.Scans.{TellsFile, IsCutFile, IsFound}
-use Rattle.capsule_tool.specs.declared.check.Verdict.{Verdict}
-use Rattle.capsule_tool.specs.declared.check.Verdict.TheVariants.{Whole, Trailing}
+use Rattle.capsule_tool.specs.declared.verdict.Verdict.{Verdict}
+use Rattle.capsule_tool.specs.declared.verdict.Verdict.TheVariants.{Whole, Trailing}
 
 -- the first bytes that are at hand
-pub front_begins : (head file : List ℕ) (size there : ℕ) (found : Result (Unit {0}) Refusal) → length head ≡ 28 → there ≡ min size 28 → IsFound head size found file
+pub front_begins : (head file : List ℕ) (size there : ℕ) (found : Result (Unit {0}) Refusal)
+    → length head ≡ 28 → there ≡ min size 28 → IsFound head size found file
     → Begins (take there head) size file
 front_begins head file size there found all few is =
     let long : length (take there head) ≡ there = omega (arith, length-take there head, all, few) in
     record {
       same = ap (λ n. take n file) long
-          ∙ (sym (take-take there 28 file (omega (arith, few))) ∙ (ap (take there) is.front ∙ take-take there size head (omega (arith, few))));
+          ∙ (sym (take-take there 28 file (omega (arith, few)))
+          ∙ (ap (take there) is.front ∙ take-take there size head (omega (arith, few))));
       long = is.long;
     }
 
-pub front_size : (head file : List ℕ) (size there : ℕ) → length head ≡ 28 → there ≡ min size 28 → Begins (take there head) size file → image_size file ≡ image_size (take there head)
-front_size head file size there all few begins = number_least 28 24 4 begins (omega (arith, length-take there head, all, few)) (omega arith)
+pub front_size : (head file : List ℕ) (size there : ℕ) → length head ≡ 28 → there ≡ min size 28
+    → Begins (take there head) size file → image_size file ≡ image_size (take there head)
+front_size head file size there all few begins =
+    number_least 28 24 4 begins (omega (arith, length-take there head, all, few)) (omega arith)
 
-accepted : (file : List ℕ) → first_refusal (capsule_rows file) ≡ None → first_refusal (body_rows file) ≡ None → verdict_of file ≡ verdict_by None file
-accepted file header body = ap (λ refused. verdict_by refused file) (first-none (capsule_rows file) (body_rows file) header ∙ body)
+accepted : (file : List ℕ) → first_refusal (capsule_rows file) ≡ None
+    → first_refusal (body_rows file) ≡ None → verdict_of file ≡ verdict_by None file
+accepted file header body = ap (λ refused. verdict_by refused file)
+    (first-none (capsule_rows file) (body_rows file) header ∙ body)
 
-pub verdict_trailing : (file : List ℕ) (n size : ℕ) → first_refusal (capsule_rows file) ≡ None → first_refusal (body_rows file) ≡ None → image_size file ≡ n → length file ≡ size → n < size
+pub verdict_trailing : (file : List ℕ) (n size : ℕ) → first_refusal (capsule_rows file) ≡ None
+    → first_refusal (body_rows file) ≡ None → image_size file ≡ n → length file ≡ size → n < size
     → Trailing n ≡ verdict_of file
 verdict_trailing file n size header body is long more =
-    sym (accepted file header body ∙ (cond-true _ _ _ (lt-ltb (image_size file) (length file) (omega (arith, is, long, more))) ∙ ap Trailing is))
+    sym (accepted file header body
+    ∙ (cond-true _ _ _ (lt-ltb (image_size file) (length file) (omega (arith, is, long, more)))
+    ∙ ap Trailing is))
 
-pub verdict_whole : (file : List ℕ) (n size : ℕ) → first_refusal (capsule_rows file) ≡ None → first_refusal (body_rows file) ≡ None → image_size file ≡ n → length file ≡ size → size ≤ n
+pub verdict_whole : (file : List ℕ) (n size : ℕ) → first_refusal (capsule_rows file) ≡ None
+    → first_refusal (body_rows file) ≡ None → image_size file ≡ n → length file ≡ size → size ≤ n
     → Whole n ≡ verdict_of file
 verdict_whole file n size header body is long all =
-    sym (accepted file header body ∙ (cond-false _ _ _ (le-ltb (image_size file) (length file) (omega (arith, is, long, all))) ∙ ap Whole is))
+    sym (accepted file header body
+    ∙ (cond-false _ _ _ (le-ltb (image_size file) (length file) (omega (arith, is, long, all)))
+    ∙ ap Whole is))
 
 -- ---- a file that was scanned and then read to its end
 
 -- all bytes, and the verdict on them
 abbrev pub IsJudged : Progress → Progress → Verdict → Type 0
-IsJudged a c verdict = (bytes : List ℕ) × Goes bytes a c × IsAtEnd c.left × (length bytes ≤ MAX_CAPSULE_BYTES) × (verdict ≡ verdict_of bytes)
+IsJudged a c verdict = (bytes : List ℕ) × Goes bytes a c × IsAtEnd c.left
+    × (length bytes ≤ MAX_CAPSULE_BYTES) × (verdict ≡ verdict_of bytes)
 
-pub judged_on : (head : List ℕ) (a b c : Progress) (refused : Option (ℕ × Why)) (found : Result (Unit {0}) Refusal) (verdict : Verdict) → a.place ≡ 0
-    → TellsFile head a b refused → ((other : Option (ℕ × Why)) → other ≡ refused → Answers found other)
-    → (rest : List ℕ) × Goes rest b c × IsAtEnd c.left × (c.place ≤ MAX_CAPSULE_BYTES) × ((file : List ℕ) → IsFound head c.place found file → verdict ≡ verdict_of file)
+pub judged_on : (head : List ℕ) (a b c : Progress) (refused : Option (ℕ × Why))
+    (found : Result (Unit {0}) Refusal) (verdict : Verdict) → a.place ≡ 0
+    → TellsFile head a b refused → ((other : Option (ℕ × Why)) → other ≡ refused
+    → Answers found other)
+    → (rest : List ℕ) × Goes rest b c × IsAtEnd c.left × (c.place ≤ MAX_CAPSULE_BYTES)
+    × ((file : List ℕ) → IsFound head c.place found file → verdict ≡ verdict_of file)
     → IsJudged a c verdict
-judged_on head a b c refused found verdict begun (bytes, goes, long, few, front, tells) answers (rest, then, end, limit, by) =
-    let all : length (bytes ++ rest) ≡ c.place = omega (arith, length-append bytes rest, goes.place, then.place, begun) in
-    let whole : length head ≡ 28 = sym (ap length front) ∙ omega (arith, length-take 28 bytes, long) in
+judged_on head a b c refused found verdict begun (bytes, goes, long, few, front, tells) answers
+    (rest, then, end, limit, by) =
+    let all : length (bytes ++ rest) ≡ c.place =
+    omega (arith, length-append bytes rest, goes.place, then.place, begun) in
+    let whole : length head ≡ 28 = sym (ap length front)
+    ∙ omega (arith, length-take 28 bytes, long) in
     let past : 28 ≤ c.place = omega (arith, goes.place, then.place, long) in (
       bytes ++ rest,
       goes_after bytes rest a b c goes then,
@@ -67,22 +87,39 @@ judged_on head a b c refused found verdict begun (bytes, goes, long, few, front,
       omega (arith, all, limit),
       by (bytes ++ rest) (record {
         long = all;
-        front = take-append-le 28 bytes rest long ∙ (front ∙ sym (take_all c.place head (omega (arith, whole, past))));
-        body = λ none. answers _ (tells (bytes ++ rest) (take_at bytes rest (length bytes) refl) none);
+        front = take-append-le 28 bytes rest long
+            ∙ (front ∙ sym (take_all c.place head (omega (arith, whole, past))));
+        body = λ none. answers _ (tells (bytes ++ rest) (take_at bytes rest (length bytes) refl)
+            none);
       }),
     )
 
-pub judged_cut : (head : List ℕ) (a b : Progress) (size : ℕ) (found : Result (Unit {0}) Refusal) (verdict : Verdict) → a.place ≡ 0 → size ≡ b.place → IsCutFile head a b
-    → ((file : List ℕ) → IsFound head size found file → verdict ≡ verdict_of file) → IsJudged a b verdict
+pub judged_cut : (head : List ℕ) (a b : Progress) (size : ℕ) (found : Result (Unit {0}) Refusal)
+    (verdict : Verdict) → a.place ≡ 0 → size ≡ b.place → IsCutFile head a b
+    → ((file : List ℕ) → IsFound head size found file → verdict ≡ verdict_of file)
+    → IsJudged a b verdict
 judged_cut head a b size found verdict begun at (bytes, goes, end, few, front, refused) by =
-    let all : length bytes ≡ size = omega (arith, goes.place, begun, at) in
-    (bytes, goes, end, few, by bytes (record { long = all; front = front ∙ ap (λ n. take n head) all; body = λ none. absurd (refused none) }))
+    let all : length bytes ≡ size = omega (arith, goes.place, begun, at) in (
+      bytes,
+      goes,
+      end,
+      few,
+      by bytes (record {
+        long = all;
+        front = front
+            ∙ ap (λ n. take n head) all;
+        body = λ none. absurd (refused none);
+      }),
+    )
 
-pub passed_on : (head : List ℕ) (a b c : Progress) (refused : Option (ℕ × Why)) → a.place ≡ 0 → TellsFile head a b refused → Passes (MAX_CAPSULE_BYTES + 1 - b.place) b c
+pub passed_on : (head : List ℕ) (a b c : Progress) (refused : Option (ℕ × Why)) → a.place ≡ 0
+    → TellsFile head a b refused → Passes (MAX_CAPSULE_BYTES + 1 - b.place) b c
     → Passes (MAX_CAPSULE_BYTES + 1) a c
 passed_on head a b c refused begun (bytes, goes, long, few, front, tells) passes =
-    let sum : length bytes + (MAX_CAPSULE_BYTES + 1 - b.place) ≡ MAX_CAPSULE_BYTES + 1 = omega (arith, goes.place, begun, few) in
-    rw (sym sum) (passes_after (length bytes) (MAX_CAPSULE_BYTES + 1 - b.place) a b c (bytes, refl, goes) passes)
+    let sum : length bytes + (MAX_CAPSULE_BYTES + 1 - b.place) ≡ MAX_CAPSULE_BYTES + 1 =
+    omega (arith, goes.place, begun, few) in
+    rw (sym sum) (passes_after (length bytes) (MAX_CAPSULE_BYTES + 1 - b.place) a b c
+    (bytes, refl, goes) passes)
 
 pub no_error : {T E : Type 0} (x : T) (e : E) → IsErrOf (Ok x) e → ⊥
 no_error x e is = cc

@@ -1,23 +1,26 @@
 -- How works come to others.
-use Rattle.std.proofs.Common.{◌≡◌, ℕ, ◌+◌, ◌≤◌, ◌⊎◌, inl, inr, List, [], ◌∷◌, ◌++◌, length, Option, refl, sym, ◌∙◌, ap, arith}
+use Rattle.std.proofs.Common.{◌≡◌, ℕ, ◌+◌, ◌≤◌, ◌⊎◌, inl, inr, List, [], ◌∷◌, ◌++◌, length}
+use Rattle.std.proofs.Common.{Option, refl, sym, ◌∙◌, ap, arith}
 use Rattle.std.specs.Prelude.{sum_by, Result, Ok, Err, IfOk, OnErr}
 use Rattle.std.proofs.lemmas.List.{append_assoc, append-nil}
 use Rattle.std.proofs.lemmas.List.Sums.{sum_by-append}
 use Rattle.cu_base.specs.Causes.{RoseBy}
 use Rattle.cu_base.specs.declared.limits.TheConstants.{MAX_CAPSULE_BYTES}
 use Rattle.cu_io.specs.Named.{Named}
-use Rattle.capsule_tool.specs.Check.{verdict_of}
+use Rattle.cu_io.specs.Seen.{Seen, MayAsk}
+use Rattle.cu_io.specs.declared.read.ReadFault.{ReadFault}
+use Rattle.cu_io.specs.declared.read.ReadFault.TheVariants as faults
 use Rattle.capsule_tool.specs.Findings.{Finding, bare}
-use Rattle.capsule_tool.specs.Readings.{Seen, WasRead, WasJudged}
-use Rattle.capsule_tool.specs.Steps.{StepsTo, IsStep, StepsBy, OnGoes}
+use Rattle.capsule_tool.specs.Readings.{Reading, WasRead, ReadsAs, JudgesAs}
+use Rattle.capsule_tool.specs.Readings.Reading.{Whole, Unread, Long}
+use Rattle.capsule_tool.specs.Steps.{StopsAt, StepsTo, IsStep, AnswersFault, judge_work}
+use Rattle.capsule_tool.specs.Verdicts.{verdict_of}
 use Rattle.capsule_tool.specs.Works.{Work, Comes, names_by, Took, ComesTo, EndsAt, MayFind, MayStop}
 use Rattle.capsule_tool.specs.Works.Work.{Finds, Reads}
 use Rattle.capsule_tool.specs.declared.answer.Answer.{Answer}
-use Rattle.capsule_tool.specs.declared.check.Verdict.{Verdict}
-use Rattle.capsule_tool.specs.declared.input.Reading.{Reading}
-use Rattle.capsule_tool.specs.declared.input.Reading.TheVariants.{Whole, Unread, Long}
-use Rattle.capsule_tool.specs.declared.step.Step.{Step}
-use Rattle.capsule_tool.specs.declared.step.Step.TheVariants.{Goes, Ends}
+use Rattle.capsule_tool.specs.declared.stop.Stop.{Stop}
+use Rattle.capsule_tool.specs.declared.stop.Stop.TheVariants.{Answered, Memory}
+use Rattle.capsule_tool.specs.declared.verdict.Verdict.{Verdict}
 
 -- counts
 pub rose_on : (m n a b c : ℕ) → RoseBy m a b → RoseBy n b c → RoseBy (m + n) a c
@@ -35,7 +38,8 @@ comes_on named (bytes ∷ rest) more (Reads limit name next) w' w'' (holds, shor
     (holds, short, comes_on named rest more (next bytes) w' w'' comes then)
 
 names_on : (named : Option Named) (readings more : List (List ℕ)) (w w' : Work)
-    → Comes named readings w w' → names_by (readings ++ more) w ≡ names_by readings w ++ names_by more w'
+    → Comes named readings w w' → names_by (readings ++ more) w ≡ names_by readings w
+    ++ names_by more w'
 names_on named [] more w w' comes = ap (names_by more) (sym comes)
 names_on named (bytes ∷ rest) more (Finds finding) w' comes = absurd comes
 names_on named (bytes ∷ rest) more (Reads limit name next) w' (holds, short, comes) =
@@ -44,132 +48,164 @@ names_on named (bytes ∷ rest) more (Reads limit name next) w' (holds, short, c
 took_on : (names names' readings more : List (List ℕ)) (b m a : Seen)
     → Took names readings b m → Took names' more m a → Took (names ++ names') (readings ++ more) b a
 took_on names names' readings more b m a first second = record {
-  asked = second.asked ∙ (ap (λ (asked : List (List ℕ)). asked ++ names') first.asked ∙ append_assoc b.asked names names');
-  taken = rw (sum_by-append length readings more) (rose_on (sum_by length readings) (sum_by length more) b.taken m.taken a.taken first.taken second.taken);
+  asked = second.asked ∙ (ap (λ (asked : List (List ℕ)). asked ++ names') first.asked
+      ∙ append_assoc b.asked names names');
+  taken = rw (sum_by-append length readings more)
+      (rose_on (sum_by length readings) (sum_by length more) b.taken m.taken a.taken first.taken
+      second.taken);
   later = omega (arith, first.later, second.later);
 }
 
-pub through : (named : Option Named) (w : Work) (b : Seen) (w' : Work) (m : Seen) (w'' : Work) (a : Seen)
+pub through : (named : Option Named) (w : Work) (b : Seen) (w' : Work) (m : Seen) (w'' : Work)
+    (a : Seen)
     → ComesTo named w b w' m → ComesTo named w' m w'' a → ComesTo named w b w'' a
 through named w b w' m w'' a (readings, comes, took) (more, then, took') = (
   readings ++ more,
   comes_on named readings more w w' w'' comes then,
-  rw (names_on named readings more w w' comes) (took_on (names_by readings w) (names_by more w') readings more b m a took took'),
+  rw (names_on named readings more w w' comes)
+      (took_on (names_by readings w) (names_by more w') readings more b m a took took'),
 )
 
 pub stays : (named : Option Named) (w : Work) (b : Seen) → ComesTo named w b w b
-stays named w b = ([], refl, record { asked = sym (append-nil b.asked); taken = rose_still b.taken; later = omega arith })
+stays named w b = (
+  [],
+  refl,
+  record {
+    asked = sym (append-nil b.asked);
+    taken = rose_still b.taken;
+    later =
+        omega arith;
+  },
+)
 
 -- by one reading
-pub one_read : (named : Option Named) (limit : ℕ) (name : List ℕ) (next : List ℕ → Work) (b a : Seen) (bytes : List ℕ)
-    → WasRead named limit name b a (Whole bytes) → ComesTo named (Reads limit name next) b (next bytes) a
-one_read named limit name next b a bytes read =
-    (bytes ∷ [], (read.gives.0, read.gives.1, refl), record { asked = read.asked; taken = omega (arith, read.gives.2); later = read.later })
+pub one_read : (named : Option Named) (limit : ℕ) (name : List ℕ) (next : List ℕ
+    → Work) (b a : Seen) (bytes : List ℕ)
+    → WasRead named limit name b a (Whole bytes)
+    → ComesTo named (Reads limit name next) b (next bytes) a
+one_read named limit name next b a bytes read = (
+  bytes ∷ [],
+  (read.gives.0, read.gives.1, refl),
+  record {
+    asked = read.asked;
+    taken =
+        omega (arith, read.gives.2);
+    later = read.later;
+  },
+)
 
 -- what may be found and where memory may run out
-pub find_through : (named : Option Named) (w : Work) (b : Seen) (w' : Work) (m a : Seen) (finding : Finding)
+pub find_through : (named : Option Named) (w : Work) (b : Seen) (w' : Work) (m a : Seen)
+    (finding : Finding)
     → ComesTo named w b w' m → MayFind named w' m a finding → MayFind named w b a finding
-find_through named w b w' m a finding comes (inl then) = inl (through named w b w' m (Finds finding) a comes then)
-find_through named w b w' m a finding comes (inr (w'', middle, then, ends)) = inr (w'', middle, through named w b w' m w'' middle comes then, ends)
+find_through named w b w' m a finding comes (inl then) =
+    inl (through named w b w' m (Finds finding) a comes then)
+find_through named w b w' m a finding comes (inr (w'', middle, then, ends)) =
+    inr (w'', middle, through named w b w' m w'' middle comes then, ends)
 
 pub stop_through : (named : Option Named) (w : Work) (b : Seen) (w' : Work) (m a : Seen)
     → ComesTo named w b w' m → MayStop named w' m a → MayStop named w b a
-stop_through named w b w' m a comes (w'', middle, then, stops) = (w'', middle, through named w b w' m w'' middle comes then, stops)
+stop_through named w b w' m a comes (w'', middle, then, stops) =
+    (w'', middle, through named w b w' m w'' middle comes then, stops)
 
-pub ended : (named : Option Named) (w : Work) (b a : Seen) (finding : Finding) → EndsAt named w b a finding → MayFind named w b a finding
+pub ended : (named : Option Named) (w : Work) (b a : Seen) (finding : Finding)
+    → EndsAt named w b a finding → MayFind named w b a finding
 ended named w b a finding ends = inr (w, b, stays named w b, ends)
 
-pub stop_here : (named : Option Named) (w : Work) (b : Seen) (w' : Work) (a : Seen) → ComesTo named w b w' a → MayStop named w b a
+pub stop_here : (named : Option Named) (w : Work) (b : Seen) (w' : Work) (a : Seen)
+    → ComesTo named w b w' a → MayStop named w b a
 stop_here named w b w' a comes = (w', a, comes, inl refl)
 
-pub stop_asking : (named : Option Named) (limit : ℕ) (name : List ℕ) (next : List ℕ → Work) (b a : Seen)
-    → (a.asked ≡ b.asked) ⊎ (a.asked ≡ b.asked ++ name ∷ []) → MayStop named (Reads limit name next) b a
-stop_asking named limit name next b a stops = (Reads limit name next, b, stays named (Reads limit name next) b, stops)
-
-pub stop_read : (named : Option Named) (limit : ℕ) (name : List ℕ) (next : List ℕ → Work) (b a : Seen) (reading : Reading (List ℕ))
-    → WasRead named limit name b a reading → MayStop named (Reads limit name next) b a
-stop_read named limit name next b a reading read = stop_asking named limit name next b a (inr read.asked)
-
 -- steps
-pub step_by : (named : Option Named) (limit : ℕ) (name : List ℕ) (next : List ℕ → Work) (b a : Seen) (reading : Reading (List ℕ)) (step : Step (List ℕ))
-    → WasRead named limit name b a reading → StepsBy name reading step → StepsTo named (Reads limit name next) b a next step
-step_by named limit name next b a (Whole bytes) (Goes value) read is = rw is (one_read named limit name next b a bytes read)
-step_by named limit name next b a (Whole bytes) (Ends answer) read is = absurd is
-step_by named limit name next b a Unread (Goes value) read is = absurd is
-step_by named limit name next b a Unread (Ends answer) read is = ended _ _ _ _ _ (Unread, read, ap bare is)
-step_by named limit name next b a Long (Goes value) read is = absurd is
-step_by named limit name next b a Long (Ends answer) read is = ended _ _ _ _ _ (Long, read, ap bare is)
+pub ends_early : {U : Type 0} (w : Work) (next : U → Work) (b a : Seen) (stop : Stop)
+    (result : Result U Stop) → result ≡ Err stop → StopsAt w b a stop → StepsTo w next b a result
+ends_early w next b a stop result is stops = rw is stops
 
-pub verdict_step : (named : Option Named) (name : List ℕ) (next : Verdict → Work) (b a : Seen) (judged : Reading Verdict) (step : Step Verdict)
-    → WasJudged named name b a judged → StepsBy name judged step → StepsTo named (Reads MAX_CAPSULE_BYTES name (λ bytes. next (verdict_of bytes))) b a next step
-verdict_step named name next b a (Whole verdict) (Goes value) (Whole bytes, read, of) is =
-    rw (is ∙ of) (one_read named MAX_CAPSULE_BYTES name (λ bytes. next (verdict_of bytes)) b a bytes read)
-verdict_step named name next b a (Whole verdict) (Goes value) (Unread, read, of) is = absurd of
-verdict_step named name next b a (Whole verdict) (Goes value) (Long, read, of) is = absurd of
-verdict_step named name next b a (Whole verdict) (Ends answer) was is = absurd is
-verdict_step named name next b a Unread (Goes value) was is = absurd is
-verdict_step named name next b a Unread (Ends answer) (Whole bytes, read, of) is = absurd of
-verdict_step named name next b a Unread (Ends answer) (Unread, read, of) is = ended _ _ _ _ _ (Unread, read, ap bare is)
-verdict_step named name next b a Unread (Ends answer) (Long, read, of) is = absurd of
-verdict_step named name next b a Long (Goes value) was is = absurd is
-verdict_step named name next b a Long (Ends answer) (Whole bytes, read, of) is = absurd of
-verdict_step named name next b a Long (Ends answer) (Unread, read, of) is = absurd of
-verdict_step named name next b a Long (Ends answer) (Long, read, of) is = ended _ _ _ _ _ (Long, read, ap bare is)
+pub ends_short : {U : Type 0} (w : Work) (next : U → Work) (b : Seen) (w' : Work) (a : Seen)
+    (result : Result U Stop) → result ≡ Err Memory → ComesTo b.named w b w' a
+    → StepsTo w next b a result
+ends_short w next b w' a result is comes = rw is (stop_here b.named w b w' a comes)
 
-pub stop_judged : (named : Option Named) (name : List ℕ) (next : List ℕ → Work) (b a : Seen) (judged : Reading Verdict)
-    → WasJudged named name b a judged → MayStop named (Reads MAX_CAPSULE_BYTES name next) b a
-stop_judged named name next b a judged (reading, read, of) = stop_read named MAX_CAPSULE_BYTES name next b a reading read
+pub step_on : {V : Type 0} (w : Work) (b : Seen) (w' : Work) (a : Seen) (next : V → Work)
+    (result : Result V Stop) → ComesTo b.named w b w' a → IsStep w' next result
+    → StepsTo w next b a result
+step_on w b w' a next (Ok value) comes is = rw is at comes
+step_on w b w' a next (Err (Answered answer)) comes is = inl (rw is at comes)
+step_on w b w' a next (Err Memory) comes is = stop_here b.named w b w' a comes
 
-pub step_short : (named : Option Named) (limit : ℕ) (name : List ℕ) (b a : Seen) (reading : Reading (List ℕ)) (step : Step (List ℕ))
-    → WasRead named limit name b a reading → StepsBy name reading step → OnGoes (λ bytes. length bytes ≤ limit) step
-step_short named limit name b a (Whole bytes) (Goes value) read is = rw is (read.gives.1)
-step_short named limit name b a (Whole bytes) (Ends answer) read is = tt
-step_short named limit name b a Unread (Goes value) read is = absurd is
-step_short named limit name b a Unread (Ends answer) read is = tt
-step_short named limit name b a Long (Goes value) read is = absurd is
-step_short named limit name b a Long (Ends answer) read is = tt
+-- one step after another
+comes_as : (named' named : Option Named) (w : Work) (b : Seen) (w' : Work) (a : Seen)
+    → named' ≡ named → ComesTo named' w b w' a → ComesTo named w b w' a
+comes_as named' named w b w' a same comes = rw same at comes
 
-pub goes_to : {V : Type 0} (named : Option Named) (w : Work) (b a : Seen) (next : V → Work) (step : Step V) (value : V)
-    → step ≡ Goes value → StepsTo named w b a next step → ComesTo named w b (next value) a
-goes_to named w b a next step value is to = rw is at to
+find_as : (named' named : Option Named) (w : Work) (b a : Seen) (finding : Finding)
+    → named' ≡ named → MayFind named' w b a finding → MayFind named w b a finding
+find_as named' named w b a finding same found = rw same at found
 
-pub ends_with : {V : Type 0} (named : Option Named) (w : Work) (b a : Seen) (next : V → Work) (step : Step V) (answer : Answer)
-    → step ≡ Ends answer → StepsTo named w b a next step → MayFind named w b a (bare answer)
-ends_with named w b a next step answer is to = rw is at to
+stop_as : (named' named : Option Named) (w : Work) (b a : Seen) → named' ≡ named
+    → MayStop named' w b a → MayStop named w b a
+stop_as named' named w b a same stops = rw same at stops
 
-pub goes_holds : {V : Type 0} (P : V → Type 0) (step : Step V) (value : V) → step ≡ Goes value → OnGoes P step → P value
-goes_holds P step value is holds = rw is at holds
+pub then_comes : (w : Work) (b : Seen) (w' : Work) (m : Seen) (w'' : Work) (a : Seen)
+    → ComesTo b.named w b w' m → m.named ≡ b.named → ComesTo m.named w' m w'' a
+    → ComesTo b.named w b w'' a
+then_comes w b w' m w'' a comes same then =
+    through b.named w b w' m w'' a comes (comes_as m.named b.named w' m w'' a same then)
 
-pub goes_short : (limit : ℕ) (step : Step (List ℕ)) (bytes : List ℕ) → step ≡ Goes bytes → OnGoes (λ bytes. length bytes ≤ limit) step → length bytes ≤ limit
-goes_short limit step bytes is short = rw is at short
+pub then_stops : (w : Work) (b : Seen) (w' : Work) (m a : Seen) (stop : Stop)
+    → ComesTo b.named w b w' m → m.named ≡ b.named → StopsAt w' m a stop → StopsAt w b a stop
+then_stops w b w' m a (Answered answer) comes same stops =
+    find_through b.named w b w' m a (bare answer) comes
+    (find_as m.named b.named w' m a (bare answer) same stops)
+then_stops w b w' m a Memory comes same stops =
+    stop_through b.named w b w' m a comes (stop_as m.named b.named w' m a same stops)
+
+-- readings
+pub read_answered : (limit : ℕ) (name : List ℕ) (next : List ℕ → Work) (b a : Seen)
+    (fault : ReadFault) (answer : Answer) → ReadsAs limit name b a (Err fault)
+    → AnswersFault name fault answer → MayFind b.named (Reads limit name next) b a (bare answer)
+read_answered limit name next b a faults.Read answer read is =
+    ended _ _ _ _ _ (Unread, read, ap bare is)
+read_answered limit name next b a faults.TooLong answer read is =
+    ended _ _ _ _ _ (Long, read, ap bare is)
+read_answered limit name next b a faults.Memory answer read is = absurd is
+
+asked_stops : (limit : ℕ) (name : List ℕ) (next : List ℕ → Work) (b a : Seen) → MayAsk name b a
+    → MayStop b.named (Reads limit name next) b a
+asked_stops limit name next b a may =
+    (Reads limit name next, b, stays b.named (Reads limit name next) b, may)
+
+pub read_stopped : {U : Type 0} (limit : ℕ) (name : List ℕ) (next : List ℕ → Work)
+    (next' : U → Work) (b a : Seen) (fault : ReadFault) (result : Result U Stop)
+    → result ≡ Err Memory → ReadsAs limit name b a (Err fault)
+    → StepsTo (Reads limit name next) next' b a result
+read_stopped limit name next next' b a faults.Read result is read =
+    rw is (asked_stops limit name next b a (inr read.asked))
+read_stopped limit name next next' b a faults.TooLong result is read =
+    rw is (asked_stops limit name next b a (inr read.asked))
+read_stopped limit name next next' b a faults.Memory result is read =
+    rw is (asked_stops limit name next b a read)
+
+pub judged_on : (name : List ℕ) (next : Verdict → Work) (b a : Seen) (verdict : Verdict)
+    → JudgesAs name b a (Ok verdict) → ComesTo b.named (judge_work name next) b (next verdict) a
+judged_on name next b a verdict (bytes, read, is) =
+    rw is (one_read b.named MAX_CAPSULE_BYTES name (λ bytes. next (verdict_of bytes)) b a bytes
+    read)
 
 pub finds_as : (named : Option Named) (w : Work) (b a : Seen) (finding finding' : Finding)
-    → finding ≡ finding' → MayFind named w b a finding' → MayFind named w b a finding
-finds_as named w b a finding finding' is found = rw is found
-
-pub step_on : {V : Type 0} (named : Option Named) (w : Work) (b : Seen) (w' : Work) (a : Seen) (next : V → Work) (step : Step V)
-    → ComesTo named w b w' a → IsStep w' next step → StepsTo named w b a next step
-step_on named w b w' a next (Goes value) comes is = rw is at comes
-step_on named w b w' a next (Ends answer) comes is = inl (rw is at comes)
+    → finding ≡ finding' → ComesTo named w b (Finds finding') a
+    → ComesTo named w b (Finds finding) a
+finds_as named w b a finding finding' is comes = rw is comes
 
 -- results
-pub lift : {X E : Type 0} (result : Result X E) (P Q : X → Type 0) → ((x : X) → P x → Q x) → IfOk result P → IfOk result Q
+pub lift : {X E : Type 0} (result : Result X E) (P Q : X → Type 0) → ((x : X) → P x → Q x)
+    → IfOk result P → IfOk result Q
 lift (Ok x) P Q implies holds = implies x holds
 lift (Err e) P Q implies holds = tt
 
 pub on_err : {X E : Type 0} (result : Result X E) (P : Type 0) → P → OnErr result P
 on_err (Ok x) P holds = tt
 on_err (Err e) P holds = holds
-
-pub found_after : {E : Type 0} (named' named : Option Named) (w : Work) (b : Seen) (w' : Work) (m a : Seen) (result : Result Finding E)
-    → named' ≡ named → ComesTo named w b w' m → IfOk result (MayFind named' w' m a) → IfOk result (MayFind named w b a)
-found_after named' named w b w' m a (Ok finding) same comes found = find_through named w b w' m a finding comes (rw same at found)
-found_after named' named w b w' m a (Err e) same comes found = tt
-
-pub stopped_after : {E : Type 0} (named' named : Option Named) (w : Work) (b : Seen) (w' : Work) (m a : Seen) (result : Result Finding E)
-    → named' ≡ named → ComesTo named w b w' m → OnErr result (MayStop named' w' m a) → OnErr result (MayStop named w b a)
-stopped_after named' named w b w' m a (Ok finding) same comes stops = tt
-stopped_after named' named w b w' m a (Err e) same comes stops = stop_through named w b w' m a comes (rw same at stops)
 
 pub stop_start : (named : Option Named) (w : Work) (b : Seen) → MayStop named w b b
 stop_start named w b = stop_here named w b w b (stays named w b)

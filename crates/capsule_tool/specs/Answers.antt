@@ -2,11 +2,16 @@
 use Rattle.std.specs.Prelude.{ℕ, List, ◌++◌, codes}
 use Rattle.std.specs.Fmt.{decimal}
 use Rattle.capsule_tool.specs.declared.answer.Answer.{Answer}
-use Rattle.capsule_tool.specs.declared.status.Status.TheVariants.{Done, Refused, Usage, Faulty, Unread, Long, Later}
+use Rattle.capsule_tool.specs.declared.status.Status.TheVariants.{Done, Refused, Usage, Faulty}
+use Rattle.capsule_tool.specs.declared.status.Status.TheVariants.{Unread, Long, Later}
 
 -- the words have none of the forms
 abbrev pub usage : Answer
-usage = record { status = Usage; text = codes "usage: check FILE | show FILE | rebuild FILE | make RECIPE | play BOARD SCRIPT | load N\n" }
+usage = record {
+  status = Usage;
+  text = codes
+      "usage: check FILE | show FILE | rebuild FILE | make RECIPE | play BOARD SCRIPT | load N\n";
+}
 
 -- a capsule of this many bytes
 abbrev pub done : ℕ → Answer
@@ -14,15 +19,27 @@ done length = record { status = Done; text = codes "ok " ++ decimal length ++ co
 
 -- bytes that are refused at a place, for a cause of this name
 abbrev pub refused : ℕ → List ℕ → Answer
-refused at name = record { status = Refused; text = codes "refused " ++ (decimal at ++ (codes " " ++ (name ++ codes "\n"))) }
+refused at name = record {
+  status = Refused;
+  text = codes "refused "
+      ++ (decimal at ++ (codes " " ++ (name ++ codes "\n")));
+}
 
 -- a board that is refused, for a kind of fault at a key
 abbrev pub faulty_board : List ℕ → List ℕ → Answer
-faulty_board kind key = record { status = Faulty; text = codes "board " ++ (kind ++ (codes " " ++ (key ++ codes "\n"))) }
+faulty_board kind key = record {
+  status = Faulty;
+  text = codes "board "
+      ++ (kind ++ (codes " " ++ (key ++ codes "\n")));
+}
 
 -- a script that is refused at a line, for a kind of fault
 abbrev pub faulty_script : ℕ → List ℕ → Answer
-faulty_script line kind = record { status = Faulty; text = codes "script " ++ (decimal line ++ (codes " " ++ (kind ++ codes "\n"))) }
+faulty_script line kind = record {
+  status = Faulty;
+  text = codes "script "
+      ++ (decimal line ++ (codes " " ++ (kind ++ codes "\n")));
+}
 
 -- a word or an input asks for what is not built yet
 abbrev pub later : List ℕ → Answer

@@ -5,13 +5,14 @@ use Rattle.capsule_grammar.specs.Reading.{capsule_of}
 use Rattle.capsule_grammar.specs.Rebuilt.{emptied}
 use Rattle.capsule_grammar.specs.Spelling.{spelling}
 use Rattle.capsule_tool.specs.Answers.{done, refused}
-use Rattle.capsule_tool.specs.Check.{verdict_of, name_of}
+use Rattle.capsule_tool.specs.Verdicts.{verdict_of, name_of}
 use Rattle.capsule_tool.specs.Findings.{bare}
 use Rattle.capsule_tool.specs.Works.{Work}
 use Rattle.capsule_tool.specs.Works.Work.{Finds, Reads}
 use Rattle.capsule_tool.specs.declared.answer.Answer.{Answer}
-use Rattle.capsule_tool.specs.declared.check.Verdict.{Verdict}
-use Rattle.capsule_tool.specs.declared.check.Verdict.TheVariants.{Whole as WholeCapsule, Refused, Trailing}
+use Rattle.capsule_tool.specs.declared.verdict.Verdict.{Verdict}
+use Rattle.capsule_tool.specs.declared.verdict.Verdict.TheVariants.{Whole as WholeCapsule, Refused}
+use Rattle.capsule_tool.specs.declared.verdict.Verdict.TheVariants.{Trailing}
 use Rattle.capsule_tool.specs.declared.status.Status.TheVariants.{Done}
 
 -- the capsule that is the whole file, without its lead and its pads
@@ -36,7 +37,8 @@ rebuild_answer bytes = rebuilt_by (verdict_of bytes) bytes
 
 -- the file is read, and the verdict on its bytes is told
 abbrev pub check_work : List ℕ → Work
-check_work name = Reads MAX_CAPSULE_BYTES name (λ bytes. Finds (bare (verdict_answer (verdict_of bytes))))
+check_work name = Reads MAX_CAPSULE_BYTES name
+    (λ bytes. Finds (bare (verdict_answer (verdict_of bytes))))
 
 -- the file is read, and rebuilt
 abbrev pub rebuild_work : List ℕ → Work

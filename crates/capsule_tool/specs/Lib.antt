@@ -1,9 +1,8 @@
 pub mod Answers
-pub mod Check
+pub mod Commands
 pub mod Files
 pub mod Findings
-pub mod Forms
-pub mod Kinds
+pub mod Names
 pub mod Plays
 pub mod Readings
 pub mod Runs
@@ -13,4 +12,5 @@ pub mod Statuses
 pub mod Steps
 pub mod ThinCapsules
 pub mod Told
+pub mod Verdicts
 pub mod Works

@@ -1,5 +1,7 @@
--- What the scan of a file finds: its headers and its offset list are read in order, and all else is passed by.
-use Rattle.std.specs.Prelude.{◌≡◌, ℕ, ◌≤◌, ◌<◌, ◌+◌, min, List, [], ◌++◌, length, take, Option, None, Some, Result, Ok, Err, ⊤}
+-- What the scan of a file finds: its headers and its offset list are read in order, and all else is
+-- passed by.
+use Rattle.std.specs.Prelude.{◌≡◌, ℕ, ◌≤◌, ◌<◌, ◌+◌, min, List, [], ◌++◌, length, take, Option}
+use Rattle.std.specs.Prelude.{None, Some, Result, Ok, Err, ⊤}
 use Rattle.std.specs.Io.KnownBytes.{IsAtEnd}
 use Rattle.cu_base.specs.Causes.{Rose}
 use Rattle.cu_base.specs.Refusals.{Row, first_refusal}
@@ -10,23 +12,29 @@ use Rattle.capsule_grammar.specs.Refusals.{Answers, capsule_rows, body_rows, ima
 use Rattle.capsule_grammar.specs.declared.refusal.Refusal.{Refusal}
 use Rattle.capsule_grammar.specs.declared.refusal.Why.{Why}
 use Rattle.capsule_tool.specs.declared.scan.stop.ScanStop.{ScanStop}
-use Rattle.capsule_tool.specs.declared.scan.stop.ScanStop.TheVariants.{Refused, Ended, Failed, Memory}
+use Rattle.capsule_tool.specs.declared.scan.stop.ScanStop.TheVariants.{Refused, Ended, Failed}
+use Rattle.capsule_tool.specs.declared.scan.stop.ScanStop.TheVariants.{Memory}
 
--- Some bytes came. In every part of this size that begins with those that stood before and with them, this is the first
--- row that holds.
-abbrev pub Tells : ℕ → (List ℕ → List (Row (ℕ × Why))) → List ℕ → Progress → Progress → Option (ℕ × Why) → Type 0
+-- Some bytes came. In every part of this size that begins with those that stood before and with
+-- them, this is the first row that holds.
+abbrev pub Tells : ℕ → (List ℕ → List (Row (ℕ × Why))) → List ℕ → Progress → Progress → Option (ℕ × Why)
+    → Type 0
 Tells size rows before old new refused =
     (bytes : List ℕ) × Goes bytes old new × (length (before ++ bytes) ≤ size)
-    × ((whole : List ℕ) → Begins (before ++ bytes) size whole → first_refusal (rows whole) ≡ refused)
+    × ((whole : List ℕ) → Begins (before ++ bytes) size whole
+    → first_refusal (rows whole) ≡ refused)
 
 -- the part goes on behind what came, and no byte is left
 abbrev pub IsCut : ℕ → List ℕ → Progress → Progress → Type 0
-IsCut size before old new = (bytes : List ℕ) × Goes bytes old new × (length (before ++ bytes) < size) × IsAtEnd new.left
+IsCut size before old new = (bytes : List ℕ) × Goes bytes old new
+    × (length (before ++ bytes) < size) × IsAtEnd new.left
 
 -- what came of scanning a part of this size, of which some bytes stood before, for these rows
-abbrev pub Scans : {X : Type 0} → ℕ → (List ℕ → List (Row (ℕ × Why))) → List ℕ → Progress → Progress → Result X ScanStop → Type 0
+abbrev pub Scans : {X : Type 0} → ℕ → (List ℕ → List (Row (ℕ × Why))) → List ℕ → Progress → Progress
+    → Result X ScanStop → Type 0
 Scans size rows before old new (Ok done) = Tells size rows before old new None
-Scans size rows before old new (Err (Refused refusal)) = Tells size rows before old new (Some (refusal.at, refusal.why))
+Scans size rows before old new (Err (Refused refusal)) =
+    Tells size rows before old new (Some (refusal.at, refusal.why))
 Scans size rows before old new (Err Ended) = IsCut size before old new
 Scans size rows before old new (Err Failed) = Rose old.faults new.faults
 Scans size rows before old new (Err Memory) = ⊤
@@ -38,45 +46,53 @@ IsStop size old new Ended = Ends size old new
 IsStop size old new Failed = Rose old.faults new.faults
 IsStop size old new Memory = ⊤
 
--- Bytes came up to an item and then its head, which is at most 48 bytes of it. In every item of this size that begins so, this
--- is the first row that holds.
+-- Bytes came up to an item and then its head, which is at most 48 bytes of it. In every item of
+-- this size that begins so, this is the first row that holds.
 abbrev pub TellsImage : ℕ → ℕ → ℕ → Progress → Progress → Option (ℕ × Why) → Type 0
 TellsImage ahead size at old new refused =
-    (passed head : List ℕ) × (length passed ≡ ahead) × (length head ≡ min 48 size) × Goes (passed ++ head) old new
+    (passed head : List ℕ) × (length passed ≡ ahead) × (length head ≡ min 48 size)
+    × Goes (passed ++ head) old new
     × ((image : List ℕ) → Begins head size image → first_refusal (image_rows image at) ≡ refused)
 
 -- what came of scanning an image item of this size that begins some bytes ahead
 abbrev pub ScansImage : ℕ → ℕ → ℕ → Progress → Progress → Result ℕ ScanStop → Type 0
 ScansImage ahead size at old new (Ok n) = (n ≡ min 48 size) × TellsImage ahead size at old new None
-ScansImage ahead size at old new (Err (Refused refusal)) = TellsImage ahead size at old new (Some (refusal.at, refusal.why))
+ScansImage ahead size at old new (Err (Refused refusal)) =
+    TellsImage ahead size at old new (Some (refusal.at, refusal.why))
 ScansImage ahead size at old new (Err Ended) = IsCut (ahead + size) [] old new
 ScansImage ahead size at old new (Err Failed) = Rose old.faults new.faults
 ScansImage ahead size at old new (Err Memory) = ⊤
 
--- Some bytes came, of which head is the first 28. In every file that begins with them, and whose capsule header is not
--- refused, this is the first row of the body that holds.
+-- Some bytes came, of which head is the first 28. In every file that begins with them, and whose
+-- capsule header is not refused, this is the first row of the body that holds.
 abbrev pub TellsFile : List ℕ → Progress → Progress → Option (ℕ × Why) → Type 0
 TellsFile head old new refused =
-    (bytes : List ℕ) × Goes bytes old new × (28 ≤ length bytes) × (length bytes ≤ MAX_CAPSULE_BYTES) × (take 28 bytes ≡ head)
-    × ((file : List ℕ) → take (length bytes) file ≡ bytes → first_refusal (capsule_rows file) ≡ None → first_refusal (body_rows file) ≡ refused)
+    (bytes : List ℕ) × Goes bytes old new × (28 ≤ length bytes) × (length bytes ≤ MAX_CAPSULE_BYTES)
+    × (take 28 bytes ≡ head)
+    × ((file : List ℕ) → take (length bytes) file ≡ bytes → first_refusal (capsule_rows file) ≡ None
+    → first_refusal (body_rows file) ≡ refused)
 
 -- all bytes came, whose first ones head has, and their capsule header is refused
 abbrev pub IsCutFile : List ℕ → Progress → Progress → Type 0
 IsCutFile head old new =
-    (bytes : List ℕ) × Goes bytes old new × IsAtEnd new.left × (length bytes ≤ MAX_CAPSULE_BYTES) × (take 28 bytes ≡ take (length bytes) head)
+    (bytes : List ℕ) × Goes bytes old new × IsAtEnd new.left × (length bytes ≤ MAX_CAPSULE_BYTES)
+    × (take 28 bytes ≡ take (length bytes) head)
     × (first_refusal (capsule_rows bytes) ≡ None → ⊥)
 
--- a file of this many bytes, of which head has the first 28 or all; and this was found of its body, where its capsule header
--- is not refused
-pub record IsFound (head : List ℕ) (size : ℕ) (found : Result (Unit {0}) Refusal) (file : List ℕ) : Type 0 where
+-- a file of this many bytes, of which head has the first 28 or all; and this was found of its body,
+-- where its capsule header is not refused
+pub record IsFound (head : List ℕ) (size : ℕ) (found : Result (Unit {0}) Refusal) (file : List ℕ) :
+    Type 0 where
   pub long : length file ≡ size
   pub front : take 28 file ≡ take size head
-  pub body : first_refusal (capsule_rows file) ≡ None → Answers found (first_refusal (body_rows file))
+  pub body : first_refusal (capsule_rows file) ≡ None
+      → Answers found (first_refusal (body_rows file))
 
 -- what came of scanning a file
 abbrev pub ScansFile : {X : Type 0} → List ℕ → Progress → Progress → Result X ScanStop → Type 0
 ScansFile head old new (Ok done) = TellsFile head old new None
-ScansFile head old new (Err (Refused refusal)) = TellsFile head old new (Some (refusal.at, refusal.why))
+ScansFile head old new (Err (Refused refusal)) =
+    TellsFile head old new (Some (refusal.at, refusal.why))
 ScansFile head old new (Err Ended) = IsCutFile head old new
 ScansFile head old new (Err Failed) = Rose old.faults new.faults
 ScansFile head old new (Err Memory) = ⊤

@@ -1,7 +1,9 @@
 -- The statuses that the program ends with.
 use Rattle.std.specs.Prelude.{ℕ}
 use Rattle.capsule_tool.specs.declared.status.Status.{Status}
-use Rattle.capsule_tool.specs.declared.status.Status.TheVariants.{Done, Refused, Usage, Faulty, Unread, Unwritten, Memory, Long, Later}
+use Rattle.capsule_tool.specs.declared.status.Status.TheVariants.{Done, Refused, Usage, Faulty}
+use Rattle.capsule_tool.specs.declared.status.Status.TheVariants.{Unread, Unwritten, Memory, Long}
+use Rattle.capsule_tool.specs.declared.status.Status.TheVariants.{Later}
 
 -- the number of a status
 abbrev pub code_of : Status → ℕ

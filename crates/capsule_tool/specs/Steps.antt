@@ -1,36 +1,45 @@
--- Where a step of the program comes to.
-use Rattle.std.specs.Prelude.{◌≡◌, ℕ, List, Option, ⊤}
-use Rattle.cu_io.specs.Named.{Named}
+-- Where a part of the work comes to.
+use Rattle.std.specs.Prelude.{◌≡◌, ℕ, List, Result, Ok, Err, ⊤}
+use Rattle.cu_base.specs.declared.limits.TheConstants.{MAX_CAPSULE_BYTES}
+use Rattle.cu_io.specs.Seen.{Seen}
+use Rattle.cu_io.specs.declared.read.ReadFault.{ReadFault}
+use Rattle.cu_io.specs.declared.read.ReadFault.TheVariants as faults
 use Rattle.capsule_tool.specs.Answers.{unread, long}
 use Rattle.capsule_tool.specs.Findings.{bare}
-use Rattle.capsule_tool.specs.Readings.{Seen}
-use Rattle.capsule_tool.specs.Works.{Work, ComesTo, MayFind}
-use Rattle.capsule_tool.specs.Works.Work.{Finds}
-use Rattle.capsule_tool.specs.declared.input.Reading.{Reading}
-use Rattle.capsule_tool.specs.declared.input.Reading.TheVariants.{Whole, Unread, Long}
-use Rattle.capsule_tool.specs.declared.step.Step.{Step}
-use Rattle.capsule_tool.specs.declared.step.Step.TheVariants.{Goes, Ends}
+use Rattle.capsule_tool.specs.Verdicts.{verdict_of}
+use Rattle.capsule_tool.specs.Works.{Work, ComesTo, MayFind, MayStop}
+use Rattle.capsule_tool.specs.Works.Work.{Finds, Reads}
+use Rattle.capsule_tool.specs.declared.answer.Answer.{Answer}
+use Rattle.capsule_tool.specs.declared.stop.Stop.{Stop}
+use Rattle.capsule_tool.specs.declared.stop.Stop.TheVariants.{Answered, Memory}
+use Rattle.capsule_tool.specs.declared.verdict.Verdict.{Verdict}
 
--- it goes on with a value, with which the work comes to what is next; or it ends with an answer, which the work may find
-abbrev pub StepsTo : {T : Type 0} → Option Named → Work → Seen → Seen → (T → Work) → Step T → Type 0
-StepsTo named work before after next (Goes value) = ComesTo named work before (next value) after
-StepsTo named work before after next (Ends answer) = MayFind named work before after (bare answer)
+-- an early answer is one that the work may find, and memory runs out where the work may stop
+abbrev pub StopsAt : Work → Seen → Seen → Stop → Type 0
+StopsAt work before after (Answered answer) = MayFind before.named work before after (bare answer)
+StopsAt work before after Memory = MayStop before.named work before after
 
--- the same where no input is read: the work is what is next, or finds this answer
-abbrev pub IsStep : {T : Type 0} → Work → (T → Work) → Step T → Type 0
-IsStep work next (Goes value) = work ≡ next value
-IsStep work next (Ends answer) = work ≡ Finds (bare answer)
+-- with a value the work comes to what is next, else it stops
+abbrev pub StepsTo : {T : Type 0} → Work → (T → Work) → Seen → Seen → Result T Stop → Type 0
+StepsTo work next before after (Ok value) = ComesTo before.named work before (next value) after
+StepsTo work next before after (Err stop) = StopsAt work before after stop
 
--- the step that a reading of the input of this name makes
-abbrev pub StepsBy : {T : Type 0} → List ℕ → Reading T → Step T → Type 0
-StepsBy name (Whole read) (Goes value) = value ≡ read
-StepsBy name (Whole read) (Ends answer) = ⊥
-StepsBy name Unread (Goes value) = ⊥
-StepsBy name Unread (Ends answer) = answer ≡ unread name
-StepsBy name Long (Goes value) = ⊥
-StepsBy name Long (Ends answer) = answer ≡ long name
+-- where no input is read, an early answer is what the work finds
+abbrev pub IsStop : Work → Stop → Type 0
+IsStop work (Answered answer) = work ≡ Finds (bare answer)
+IsStop work Memory = ⊤
 
--- what holds of the value with which a step goes on
-abbrev pub OnGoes : {T : Type 0} → (T → Type 0) → Step T → Type 0
-OnGoes Holds (Goes value) = Holds value
-OnGoes Holds (Ends answer) = ⊤
+-- where no input is read: with a value the work is what is next, else it stops
+abbrev pub IsStep : {T : Type 0} → Work → (T → Work) → Result T Stop → Type 0
+IsStep work next (Ok value) = work ≡ next value
+IsStep work next (Err stop) = IsStop work stop
+
+-- what is answered where the input of this name was not read whole
+abbrev pub AnswersFault : List ℕ → ReadFault → Answer → Type 0
+AnswersFault name faults.Read answer = answer ≡ unread name
+AnswersFault name faults.TooLong answer = answer ≡ long name
+AnswersFault name faults.Memory answer = ⊥
+
+-- the input of this name is read, and the verdict on its bytes says what is done next
+abbrev pub judge_work : List ℕ → (Verdict → Work) → Work
+judge_work name next = Reads MAX_CAPSULE_BYTES name (λ bytes. next (verdict_of bytes))

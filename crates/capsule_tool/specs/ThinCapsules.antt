@@ -1,5 +1,5 @@
--- Thin capsules in the words of the grammar (UEFI 2.10, 8.5.3 and 23.3.2), and what the reference machine sees of a
--- capsule.
+-- Thin capsules in the words of the grammar (UEFI 2.10, 8.5.3 and 23.3.2), and what the reference
+-- machine sees of a capsule.
 use Rattle.std.specs.Prelude.{◌≡◌, [], ◌∷◌, length, map}
 use Rattle.cu_base.specs.declared.guid.Guid.{Guid}
 use Rattle.fmp_headers.specs.declared.image.ImageHeader.{ImageHeader}
@@ -36,16 +36,29 @@ pub record IsThinCapsule (c : Capsule) : Type 0 where
 
 -- the header of an image as the machine sees it
 abbrev pub machine_head : ImageHeader → machine.ItemHead
-machine_head h = record { version = h.version; type_id = h.type_id; index = h.index; instance = h.instance; support = h.support }
+machine_head h = record {
+  version = h.version;
+  type_id = h.type_id;
+  index = h.index;
+  instance =
+      h.instance;
+  support = h.support;
+}
 
 -- an image as the machine sees it: its header and its update image
 abbrev pub machine_item : Image → machine.Item
 machine_item i = record { head = machine_head i.header; image = i.image }
 
--- a capsule of this GUID and body: the number of its drivers, and its images in order; another body has none
+-- a capsule of this GUID and body: the number of its drivers, and its images in order; another body
+-- has none
 abbrev pub machine_body : Guid → Body → machine.Capsule
 machine_body guid (Other blob) = record { guid = guid; drivers = 0; items = [] }
-machine_body guid (Fmp b) = record { guid = guid; drivers = length b.drivers; items = map machine_item b.images }
+machine_body guid (Fmp b) = record {
+  guid = guid;
+  drivers = length b.drivers;
+  items =
+      map machine_item b.images;
+}
 
 -- a capsule as the machine sees it
 abbrev pub machine_capsule : Capsule → machine.Capsule

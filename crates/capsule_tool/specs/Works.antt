@@ -1,13 +1,14 @@
--- The work of a run: the inputs that it reads, one after the other, and what it finds then. What the program finds, what it
--- may find whatever happens outside, and the names that it asks for are all read off it.
+-- The work of a run: the inputs that it reads, one after the other, and what it finds then. What
+-- the program finds, what it may find whatever happens outside, and the names that it asks for are
+-- all read off it.
 use Rattle.std.specs.Prelude.{◌≡◌, ℕ, ◌≤◌, ◌⊎◌, List, [], ◌∷◌, ◌++◌, length, sum_by, Option}
 use Rattle.cu_base.specs.Causes.{RoseBy}
 use Rattle.cu_io.specs.Named.{Named, bytes_named}
 use Rattle.capsule_tool.specs.Answers.{unread, long}
 use Rattle.capsule_tool.specs.Findings.{Finding, bare}
-use Rattle.capsule_tool.specs.Readings.{Seen, MayHold, WasRead, reading_of}
-use Rattle.capsule_tool.specs.declared.input.Reading.{Reading}
-use Rattle.capsule_tool.specs.declared.input.Reading.TheVariants.{Whole, Unread, Long}
+use Rattle.cu_io.specs.Seen.{Seen}
+use Rattle.capsule_tool.specs.Readings.{Reading, MayHold, WasRead, reading_of}
+use Rattle.capsule_tool.specs.Readings.Reading.{Whole, Unread, Long}
 
 -- this is found; or an input is read up to a limit, and its bytes say what is done next
 pub data Work : Type 0 where
@@ -15,7 +16,7 @@ pub data Work : Type 0 where
   Reads : (limit : ℕ) → (name : List ℕ) → (next : List ℕ → Work) → Work
 
 -- what comes of a reading: the first one that does not give all bytes decides
-abbrev pub by_reading : List ℕ → (List ℕ → Finding) → Reading (List ℕ) → Finding
+abbrev pub by_reading : List ℕ → (List ℕ → Finding) → Reading → Finding
 by_reading name next (Whole bytes) = next bytes
 by_reading name next Unread = bare (unread name)
 by_reading name next Long = bare (long name)
@@ -23,7 +24,8 @@ by_reading name next Long = bare (long name)
 -- what is found where inputs are told and no call fails
 abbrev pub told_by : Named → Work → Finding
 told_by named (Finds finding) = finding
-told_by named (Reads limit name next) = by_reading name (λ bytes. told_by named (next bytes)) (reading_of limit (bytes_named named name))
+told_by named (Reads limit name next) = by_reading name (λ bytes. told_by named (next bytes))
+    (reading_of limit (bytes_named named name))
 
 -- a work comes to another by reading these bytes whole, input by input
 abbrev pub Comes : Option Named → List (List ℕ) → Work → Work → Type 0
@@ -52,10 +54,11 @@ pub record Took (names readings : List (List ℕ)) (before after : Seen) : Type 
 -- a work comes to another between these moments
 abbrev pub ComesTo : Option Named → Work → Seen → Work → Seen → Type 0
 ComesTo named work before work' after =
-    (readings : List (List ℕ)) × Comes named readings work work' × Took (names_by readings work) readings before after
+    (readings : List (List ℕ)) × Comes named readings work work'
+    × Took (names_by readings work) readings before after
 
 -- a reading that does not give all bytes decides
-abbrev pub Decides : List ℕ → Reading (List ℕ) → Finding → Type 0
+abbrev pub Decides : List ℕ → Reading → Finding → Type 0
 Decides name (Whole bytes) finding = ⊥
 Decides name Unread finding = finding ≡ bare (unread name)
 Decides name Long finding = finding ≡ bare (long name)
@@ -64,15 +67,19 @@ Decides name Long finding = finding ≡ bare (long name)
 abbrev pub EndsAt : Option Named → Work → Seen → Seen → Finding → Type 0
 EndsAt named (Finds it) before after finding = ⊥
 EndsAt named (Reads limit name next) before after finding =
-    (reading : Reading (List ℕ)) × WasRead named limit name before after reading × Decides name reading finding
+    (reading : Reading) × WasRead named limit name before after reading
+    × Decides name reading finding
 
--- what a work may find, whatever happens outside: what it comes to, or what the reading of an input decides
+-- what a work may find, whatever happens outside: what it comes to, or what the reading of an input
+-- decides
 abbrev pub MayFind : Option Named → Work → Seen → Seen → Finding → Type 0
 MayFind named work before after finding =
     ComesTo named work before (Finds finding) after
-    ⊎ ((work' : Work) × (middle : Seen) × ComesTo named work before work' middle × EndsAt named work' middle after finding)
+    ⊎ ((work' : Work) × (middle : Seen) × ComesTo named work before work' middle
+    × EndsAt named work' middle after finding)
 
--- where a work may stop for want of memory: where it comes to, before or after it asks for its next input
+-- where a work may stop for want of memory: where it comes to, before or after it asks for its next
+-- input
 abbrev pub MayStop : Option Named → Work → Seen → Seen → Type 0
 MayStop named work before after =
     (work' : Work) × (middle : Seen) × ComesTo named work before work' middle

@@ -1,8 +1,11 @@
 ghost use Rattle.std.specs.Prelude.{◌≡◌, IfOk};
-ghost use Rattle.capsule_tool.specs.Answers.{usage, done, refused, faulty_board, faulty_script, later, unread, long};
+ghost use Rattle.capsule_tool.specs.Answers.{usage, done, refused, faulty_board, faulty_script};
+ghost use Rattle.capsule_tool.specs.Answers.{later, unread, long};
+ghost use Rattle.capsule_tool.specs.Steps.{AnswersFault};
 
 use crate::status::Status;
-use cu_base::{Blob, NoMemory};
+use cu_base::{Blob, NoMemory, Text};
+use cu_io::ReadFault;
 use std::alloc::Global;
 
 /// A status, and the text that is written with it.
@@ -16,7 +19,7 @@ const USAGE: &str =
     "usage: check FILE | show FILE | rebuild FILE | make RECIPE | play BOARD SCRIPT | load N\n";
 
 impl Answer {
-    /// The words have none of the forms.
+    /// The words are no command.
     pub fn usage(alloc: Global) -> Result<Answer, NoMemory>
         ensures { IfOk result (λ answer. answer ≡ usage) }
     {
@@ -93,6 +96,17 @@ impl Answer {
         match format!(in alloc; "long {name}\n") {
             Ok(text) => Answer::new(alloc, Status::Long, text.as_str()),
             Err(_) => Err(NoMemory),
+        }
+    }
+
+    /// The input of this name was not read whole, for this fault.
+    pub fn read_fault(alloc: Global, name: &Text, fault: ReadFault) -> Result<Answer, NoMemory>
+        ensures { IfOk result (AnswersFault name.now fault) }
+    {
+        match fault {
+            ReadFault::Read => Answer::unread(alloc, name.as_str()),
+            ReadFault::TooLong => Answer::long(alloc, name.as_str()),
+            ReadFault::Memory => Err(NoMemory),
         }
     }
 

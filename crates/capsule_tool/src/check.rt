@@ -1,49 +1,40 @@
-ghost use Rattle.std.specs.Prelude.{◌≡◌};
-ghost use Rattle.capsule_tool.specs.Check.{verdict_of, name_of, MayBeWhole};
+//! The command `check`: the verdict on a file.
+ghost use Rattle.std.specs.Prelude.{◌≡◌, IfOk};
+ghost use Rattle.cu_io.specs.Seen.{Follows};
+ghost use Rattle.capsule_tool.specs.Files.{check_work, verdict_answer};
+ghost use Rattle.capsule_tool.specs.Steps.{StepsTo};
+ghost use Rattle.capsule_tool.specs.Works.Work.{Finds};
 
-use capsule_grammar::{Refusal, Why};
+use crate::answer::Answer;
+use crate::found::Found;
+use crate::input::judge_input;
+use crate::names::why_name;
+use crate::stop::Stop;
+use crate::verdict::Verdict;
+use cu_base::{NoMemory, Text};
+use cu_io::Inputs;
+use std::alloc::Global;
 
-/// What checking the bytes of a file finds.
-#[derive(Clone, Copy, Debug, PartialEq, Eq)]
-pub enum Verdict {
-    /// They are one capsule of this many bytes.
-    Whole(usize),
-    /// They are refused as a capsule.
-    Refused(Refusal),
-    /// Bytes follow the capsule, from this place on.
-    Trailing(usize),
+/// Checks the file of this name as it is read; its bytes are not kept.
+pub fn check<I: Inputs>(alloc: Global, name: &Text, inputs: &mut I) -> Result<Found, Stop>
+    ensures steps { StepsTo (check_work name.now) (λ found. Finds found)
+        (I.seen inputs.old) (I.seen inputs.new) result }
+    ensures frame { Follows (I.seen inputs.old) (I.seen inputs.new) }
+{
+    let verdict = judge_input(alloc, name, inputs)?;
+    let answer = verdict_answer(alloc, verdict)?;
+    Ok(Found::bare(alloc, answer))
 }
 
-/// Whether the bytes are one capsule and no more.
-pub fn judge(bytes: &[u8]) -> Verdict
-    ensures value { result ≡ verdict_of bytes.now }
-    ensures whole { MayBeWhole result bytes.now }
+/// What is told of a file, by the verdict on it.
+pub fn verdict_answer(alloc: Global, verdict: Verdict) -> Result<Answer, NoMemory>
+    ensures { IfOk result (λ answer. answer ≡ verdict_answer verdict) }
 {
-    match capsule_grammar::check(bytes) {
-        Ok(length) => {
-            if length < bytes.len() {
-                Verdict::Trailing(length)
-            } else {
-                Verdict::Whole(length)
-            }
+    match verdict {
+        Verdict::Whole(length) => Answer::done(alloc, length),
+        Verdict::Refused(refusal) => {
+            Answer::refused(alloc, refusal.at as usize, why_name(refusal.why))
         }
-        Err(refusal) => Verdict::Refused(refusal),
-    }
-}
-
-/// The name of a cause as it is printed.
-pub fn printed(why: Why) -> &'static str
-    ensures { result.now ≡ name_of why }
-{
-    match why {
-        Why::Short => "Short",
-        Why::BadHeaderSize => "BadHeaderSize",
-        Why::BadImageSize => "BadImageSize",
-        Why::BadFmpVersion => "BadFmpVersion",
-        Why::BadImageVersion => "BadImageVersion",
-        Why::OffsetsOutside => "OffsetsOutside",
-        Why::OffsetsNotRising => "OffsetsNotRising",
-        Why::ImageOutside => "ImageOutside",
-        Why::TooManyCapsules => "TooManyCapsules",
+        Verdict::Trailing(at) => Answer::refused(alloc, at, "Trailing"),
     }
 }

@@ -6,8 +6,8 @@ use reset_play::Trace;
 use std::alloc::Global;
 use std::marker::Model;
 
-/// What a run has found, before any of it is written: its answer, and the trace of its play. Contracts see
-/// the trace as what it tells.
+/// What a run has found, before any of it is written: its answer, and the trace of its play.
+/// Contracts see the trace as what it tells.
 #[derive(Drop)]
 pub struct Found {
     pub answer: Answer,

@@ -1,43 +1,45 @@
-//! `capsule_tool` checks and rebuilds UEFI capsule files, and plays a platform that takes them. Its words are
-//! `check FILE`, `rebuild FILE` and `play BOARD SCRIPT`; the other forms are still to be built, and answer so.
+//! `capsule_tool` checks and rebuilds UEFI capsule files, and plays a platform that takes them. Its
+//! words are `check FILE`, `rebuild FILE` and `play BOARD SCRIPT`; the other commands are still to
+//! be built, and answer so.
 //!
-//! `run` is the whole program over inputs and a sink: what it writes, its status and the trace of a play are a
-//! function of the words and of the bytes of the inputs, wherever nothing outside fails.
+//! `run` is the whole program over inputs and a sink: what it writes, its status and the trace of a
+//! play are a function of the words and of the bytes of the inputs, wherever nothing outside fails.
 #![tactic(auto)]
 
 mod answer;
 mod check;
-mod file;
-mod form;
+mod command;
 mod found;
 mod input;
-mod kinds;
 mod laws;
 mod limits;
+mod names;
 mod play;
 mod program;
+mod rebuild;
 mod scan;
 mod status;
-mod step;
+mod stop;
 #[cfg(test)]
 mod tests;
+mod verdict;
 
 use cu_base::{Names, NoMemory, Text};
 use cu_io::{FileInputs, StdSink};
-pub use laws::thin_deliveries_are_capsules;
+pub use laws::{limits_are_as_specified, thin_deliveries_are_capsules};
 pub use program::{Outcome, run};
 use status::Status;
 use std::alloc::Global;
-use std::env;
 use std::io::ErrorKind;
 use std::process::ExitCode;
 use std::rt::Env;
+use std::{env, io};
 
 fn main(rt: HostRuntime) -> ExitCode {
     match words_of(&rt) {
         Ok(words) => {
             let mut inputs = FileInputs::new(rt.alloc(), &rt);
-            let mut out = StdSink::new(&rt);
+            let mut out = StdSink::new(io::writer(&rt));
             let outcome = run(rt.alloc(), words.as_slice(), &mut inputs, &mut out);
             ExitCode::from(outcome.status)
         }

@@ -1,11 +1,11 @@
-//! The work on a board and a script.
-ghost use Rattle.std.specs.Prelude.{◌≡◌, ◌≤◌, IsTrue, [], length, IfOk, OnErr};
+//! The command `play`: a platform of a board, through the events of a script.
+ghost use Rattle.std.specs.Prelude.{◌≡◌, ◌≤◌, IsTrue, length, IfOk};
 ghost use Rattle.std.specs.List.{list_all};
-ghost use Rattle.reset_play.specs.Plays.{has_one_device, is_of_files, can_play};
-ghost use Rattle.reset_play.specs.ScriptInputs.{inputs_of};
-ghost use Rattle.capsule_tool.specs.Plays.{play_work, script_work, inputs_work, played};
-ghost use Rattle.capsule_tool.specs.Readings.{seen};
-ghost use Rattle.capsule_tool.specs.Works.{MayFind, MayStop};
+ghost use Rattle.cu_io.specs.Seen.{Follows};
+ghost use Rattle.reset_play.specs.Plays.{has_one_device, can_play};
+ghost use Rattle.capsule_tool.specs.Plays.{play_work, played};
+ghost use Rattle.capsule_tool.specs.Steps.{StepsTo};
+ghost use Rattle.capsule_tool.specs.Works.Work.{Finds};
 
 mod board;
 mod inputs;
@@ -14,7 +14,7 @@ mod script;
 use crate::answer::Answer;
 use crate::found::Found;
 use crate::status::Status;
-use crate::step::Step;
+use crate::stop::Stop;
 use bench_model::Board;
 use board::take_board;
 use cu_base::{Blob, NoMemory, Text};
@@ -25,71 +25,25 @@ use script::take_script;
 use std::alloc::Global;
 
 /// Reads the board and the script of these names and the inputs that the script names, and plays.
-pub fn on_play<I: Inputs>(
+pub fn play<I: Inputs>(
     alloc: Global,
     board: &Text,
     script: &Text,
     inputs: &mut I,
-) -> Result<Found, NoMemory>
-    ensures found { IfOk result (MayFind (I.named inputs.old) (play_work board.now script.now) (seen (I.asked inputs.old) (I.faults inputs.old) (I.taken inputs.old)) (seen (I.asked inputs.new) (I.faults inputs.new) (I.taken inputs.new))) }
-    ensures memory { OnErr result (MayStop (I.named inputs.old) (play_work board.now script.now) (seen (I.asked inputs.old) (I.faults inputs.old) (I.taken inputs.old)) (seen (I.asked inputs.new) (I.faults inputs.new) (I.taken inputs.new))) }
-    ensures named { I.named inputs.new ≡ I.named inputs.old }
-    ensures later { I.faults inputs.old ≤ I.faults inputs.new }
+) -> Result<Found, Stop>
+    ensures steps { StepsTo (play_work board.now script.now) (λ found. Finds found)
+        (I.seen inputs.old) (I.seen inputs.new) result }
+    ensures frame { Follows (I.seen inputs.old) (I.seen inputs.new) }
 {
-    match take_board(alloc, board, inputs) {
-        Ok(Step::Goes(board)) => on_script(alloc, &board, script, inputs),
-        Ok(Step::Ends(answer)) => Ok(Found::bare(alloc, answer)),
-        Err(NoMemory) => Err(NoMemory),
-    }
-}
-
-/// The same from the script on.
-fn on_script<I: Inputs>(
-    alloc: Global,
-    board: &Board,
-    name: &Text,
-    inputs: &mut I,
-) -> Result<Found, NoMemory>
-    requires { IsTrue (has_one_device board.now) }
-    ensures found { IfOk result (MayFind (I.named inputs.old) (script_work board.now name.now) (seen (I.asked inputs.old) (I.faults inputs.old) (I.taken inputs.old)) (seen (I.asked inputs.new) (I.faults inputs.new) (I.taken inputs.new))) }
-    ensures memory { OnErr result (MayStop (I.named inputs.old) (script_work board.now name.now) (seen (I.asked inputs.old) (I.faults inputs.old) (I.taken inputs.old)) (seen (I.asked inputs.new) (I.faults inputs.new) (I.taken inputs.new))) }
-    ensures named { I.named inputs.new ≡ I.named inputs.old }
-    ensures later { I.faults inputs.old ≤ I.faults inputs.new }
-{
-    match take_script(alloc, name, inputs) {
-        Ok(Step::Goes(script)) => on_inputs(alloc, board, &script, inputs),
-        Ok(Step::Ends(answer)) => Ok(Found::bare(alloc, answer)),
-        Err(NoMemory) => Err(NoMemory),
-    }
-}
-
-/// The same from the inputs of the script on.
-fn on_inputs<I: Inputs>(
-    alloc: Global,
-    board: &Board,
-    script: &Script,
-    inputs: &mut I,
-) -> Result<Found, NoMemory>
-    requires one { IsTrue (has_one_device board.now) }
-    requires short { length script.now.items ≤ MAX_EVENTS }
-    requires events { IsTrue (list_all is_of_files script.now.items) }
-    ensures found { IfOk result (MayFind (I.named inputs.old) (inputs_work board.now script.now.items [] 0 (inputs_of script.now.items)) (seen (I.asked inputs.old) (I.faults inputs.old) (I.taken inputs.old)) (seen (I.asked inputs.new) (I.faults inputs.new) (I.taken inputs.new))) }
-    ensures memory { OnErr result (MayStop (I.named inputs.old) (inputs_work board.now script.now.items [] 0 (inputs_of script.now.items)) (seen (I.asked inputs.old) (I.faults inputs.old) (I.taken inputs.old)) (seen (I.asked inputs.new) (I.faults inputs.new) (I.taken inputs.new))) }
-    ensures named { I.named inputs.new ≡ I.named inputs.old }
-    ensures later { I.faults inputs.old ≤ I.faults inputs.new }
-{
-    let Ok(names) = script_inputs(alloc, script) else {
-        return Err(NoMemory);
-    };
-    match take_inputs(alloc, board, names.as_slice(), inputs) {
-        Ok(Step::Goes(loaded)) => played(alloc, board, script, &loaded),
-        Ok(Step::Ends(answer)) => Ok(Found::bare(alloc, answer)),
-        Err(NoMemory) => Err(NoMemory),
-    }
+    let board = take_board(alloc, board, inputs)?;
+    let script = take_script(alloc, script, inputs)?;
+    let names = script_inputs(alloc, &script)?;
+    let loaded = take_inputs(alloc, &board, names.as_slice(), inputs)?;
+    let found = played(alloc, &board, &script, &loaded)?;
+    Ok(found)
 }
 
 /// Plays over the inputs that were read.
-
 fn played(alloc: Global, board: &Board, script: &Script, loaded: &Loaded) -> Result<Found, NoMemory>
     requires one { IsTrue (has_one_device board.now) }
     requires short { length script.now.items ≤ MAX_EVENTS }

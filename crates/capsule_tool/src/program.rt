@@ -1,53 +1,83 @@
-ghost use Rattle.std.specs.Prelude.{◌≡◌, ◌≤◌, ◌⊎◌, [], map, IfOk, OnErr};
+ghost use Rattle.std.specs.Prelude.{◌≡◌, ◌≤◌, IfOk, OnErr};
 ghost use Rattle.cu_base.specs.Causes.{Rose};
-ghost use Rattle.reference_machine.specs.TraceValues.{entry_value};
-ghost use Rattle.capsule_tool.specs.Forms.{form_of};
-ghost use Rattle.capsule_tool.specs.Readings.{seen};
-ghost use Rattle.capsule_tool.specs.Runs.{AnswersAsTold, Judges, IsUsage, IsUnread, IsLong, Writes, EndsBy};
+ghost use Rattle.cu_io.specs.Seen.{Follows};
+ghost use Rattle.capsule_tool.specs.Commands.{command_of};
+ghost use Rattle.capsule_tool.specs.Runs.{IsCalm, AnswersAsTold, Judges, IsUsage, IsUnread, IsLong};
+ghost use Rattle.capsule_tool.specs.Runs.{Writes, EndsBy, IsTraced};
+ghost use Rattle.capsule_tool.specs.Steps.{StepsTo};
 ghost use Rattle.capsule_tool.specs.Told.{work_of};
 ghost use Rattle.capsule_tool.specs.Works.{MayFind, MayStop};
+ghost use Rattle.capsule_tool.specs.Works.Work.{Finds};
 
 use crate::answer::Answer;
-use crate::file::{check_file, rebuild_file};
-use crate::form::{Form, form_of_words};
+use crate::check::check;
+use crate::command::{Command, command_of};
 use crate::found::Found;
-use crate::play::on_play;
+use crate::play::play;
+use crate::rebuild::rebuild;
 use crate::status::Status;
+use crate::stop::Stop;
 use cu_base::{NoMemory, Text};
 use cu_io::{Inputs, Sink, WriteFault, write_whole};
 use reset_play::Trace;
 use std::alloc::Global;
+use std::marker::Model;
 
-/// How a run ended: the status, and what a play told of its events. With status 6 the trace is whole or empty.
+/// How a run ended: the status, and what a play told of its events. With status 6 the trace is
+/// whole or empty. Contracts see the trace as what it tells.
 #[derive(Drop)]
 pub struct Outcome {
     pub status: u8,
     pub trace: Trace,
 }
 
-/// All the work of the words. Nothing is written by it.
-fn find<I: Inputs>(alloc: Global, words: &[Text], inputs: &mut I) -> Result<Found, NoMemory>
-    ensures found { IfOk result (MayFind (I.named inputs.old) (work_of words.now) (seen (I.asked inputs.old) (I.faults inputs.old) (I.taken inputs.old)) (seen (I.asked inputs.new) (I.faults inputs.new) (I.taken inputs.new))) }
-    ensures memory { OnErr result (MayStop (I.named inputs.old) (work_of words.now) (seen (I.asked inputs.old) (I.faults inputs.old) (I.taken inputs.old)) (seen (I.asked inputs.new) (I.faults inputs.new) (I.taken inputs.new))) }
-    ensures named { I.named inputs.new ≡ I.named inputs.old }
-    ensures later { I.faults inputs.old ≤ I.faults inputs.new }
+impl Model for Outcome {
+    ghost use Rattle.std.specs.Prelude.{map};
+    ghost use Rattle.reference_machine.specs.TraceValues.{entry_value};
+    ghost use Rattle.capsule_tool.specs.Findings.{Ending};
+
+    ghost Value = { Ending };
+
+    ghost view = { λ o. record { status = o.status; trace = map entry_value o.trace.items } };
+}
+
+/// The work of the words. Nothing is written by it.
+fn work<I: Inputs>(alloc: Global, words: &[Text], inputs: &mut I) -> Result<Found, Stop>
+    ensures steps { StepsTo (work_of words.now) (λ found. Finds found)
+        (I.seen inputs.old) (I.seen inputs.new) result }
+    ensures frame { Follows (I.seen inputs.old) (I.seen inputs.new) }
 {
-    match form_of_words(words) {
-        None => Ok(Found::bare(alloc, Answer::usage(alloc)?)),
-        Some(Form::Check) => check_file(alloc, &words[1], inputs),
-        Some(Form::Rebuild) => rebuild_file(alloc, &words[1], inputs),
-        Some(Form::Play) => on_play(alloc, &words[1], &words[2], inputs),
-        Some(Form::Show | Form::Make | Form::Load) => {
-            Ok(Found::bare(alloc, Answer::later(alloc, words[0].as_str())?))
+    match command_of(words) {
+        None => Err(Stop::Answered(Answer::usage(alloc)?)),
+        Some(Command::Check) => check(alloc, &words[1], inputs),
+        Some(Command::Rebuild) => rebuild(alloc, &words[1], inputs),
+        Some(Command::Play) => play(alloc, &words[1], &words[2], inputs),
+        Some(Command::Show | Command::Make | Command::Load) => {
+            Err(Stop::Answered(Answer::later(alloc, words[0].as_str())?))
         }
+    }
+}
+
+/// What the work of the words finds, early or at its end.
+fn find<I: Inputs>(alloc: Global, words: &[Text], inputs: &mut I) -> Result<Found, NoMemory>
+    ensures ok { IfOk result (λ found. MayFind (I.seen inputs.old).named (work_of words.now)
+        (I.seen inputs.old) (I.seen inputs.new) found) }
+    ensures memory { OnErr result (MayStop (I.seen inputs.old).named (work_of words.now)
+        (I.seen inputs.old) (I.seen inputs.new)) }
+    ensures frame { Follows (I.seen inputs.old) (I.seen inputs.new) }
+{
+    match work(alloc, words, inputs) {
+        Ok(found) => Ok(found),
+        Err(Stop::Answered(answer)) => Ok(Found::bare(alloc, answer)),
+        Err(Stop::Memory) => Err(NoMemory),
     }
 }
 
 /// Writes what was found, and ends the run.
 fn say<O: Sink>(out: &mut O, found: Found) -> Outcome
-    ensures counts { O.faults out.old ≤ O.faults out.new }
-    ensures written { Writes found.answer result.status (O.written out.old) (O.written out.new) (O.faults out.old) (O.faults out.new) }
-    ensures trace { map entry_value result.trace.items ≡ found.trace }
+    ensures writes { Writes found.answer result.status (O.seen out.old) (O.seen out.new) }
+    ensures value { result.trace ≡ found.trace }
+    ensures counts { (O.seen out.old).faults ≤ (O.seen out.new).faults }
 {
     let status = match write_whole(out, found.answer.text.as_slice()) {
         Ok(()) => found.answer.status,
@@ -60,35 +90,54 @@ fn say<O: Sink>(out: &mut O, found: Found) -> Outcome
     }
 }
 
-/// The whole program: the words are done over the inputs, and what was found is written to the sink. All
-/// reading comes before all writing.
+/// The whole program: the words are done over the inputs, and what was found is written to the
+/// sink. All reading comes before all writing.
 pub fn run<I: Inputs, O: Sink>(
     alloc: Global,
     words: &[Text],
     inputs: &mut I,
     out: &mut O,
 ) -> Outcome
-    // Where nothing outside fails, status, trace and text are those told by the words and the named bytes.
-    ensures exact { ¬ Rose (I.faults inputs.old) (I.faults inputs.new) → ¬ Rose (O.faults out.old) (O.faults out.new) → AnswersAsTold (I.named inputs.old) words.now result.status (map entry_value result.trace.items) (O.written out.old) (O.written out.new) }
+    // Where nothing outside fails, status, trace and text are those told by the words and the
+    // bytes.
+    ensures told { IsCalm (I.seen inputs.old) (I.seen inputs.new) (O.seen out.old) (O.seen out.new)
+        → AnswersAsTold (I.seen inputs.old).named words.now result.status result.trace
+        (O.seen out.old) (O.seen out.new) }
 
     // When each status comes, whatever happens outside.
-    ensures done { result.status ≡ 0 → Judges (work_of words.now) (I.named inputs.old) 0 (map entry_value result.trace.items) (O.written out.old) (O.written out.new) }
-    ensures refused { result.status ≡ 1 → Judges (work_of words.now) (I.named inputs.old) 1 (map entry_value result.trace.items) (O.written out.old) (O.written out.new) }
-    ensures usage { result.status ≡ 2 → IsUsage (form_of words.now) (O.written out.old) (O.written out.new) }
-    ensures faulty { result.status ≡ 3 → Judges (work_of words.now) (I.named inputs.old) 3 (map entry_value result.trace.items) (O.written out.old) (O.written out.new) }
-    ensures unread { result.status ≡ 4 → IsUnread (work_of words.now) (I.named inputs.old) (seen (I.asked inputs.old) (I.faults inputs.old) (I.taken inputs.old)) (seen (I.asked inputs.new) (I.faults inputs.new) (I.taken inputs.new)) (O.written out.old) (O.written out.new) }
-    ensures unwritten { result.status ≡ 5 → Rose (O.faults out.old) (O.faults out.new) }
-    ensures long { result.status ≡ 7 → IsLong (work_of words.now) (I.named inputs.old) (seen (I.asked inputs.old) (I.faults inputs.old) (I.taken inputs.old)) (seen (I.asked inputs.new) (I.faults inputs.new) (I.taken inputs.new)) (map entry_value result.trace.items) (O.written out.old) (O.written out.new) }
-    ensures later { result.status ≡ 8 → Judges (work_of words.now) (I.named inputs.old) 8 (map entry_value result.trace.items) (O.written out.old) (O.written out.new) }
-    ensures other { result.status ≤ 8 }
+    ensures done { result.status ≡ 0
+        → Judges (work_of words.now) (I.seen inputs.old).named 0 result.trace
+        (O.seen out.old) (O.seen out.new) }
+    ensures refused { result.status ≡ 1
+        → Judges (work_of words.now) (I.seen inputs.old).named 1 result.trace
+        (O.seen out.old) (O.seen out.new) }
+    ensures usage { result.status ≡ 2
+        → IsUsage (command_of words.now) (O.seen out.old) (O.seen out.new) }
+    ensures faulty { result.status ≡ 3
+        → Judges (work_of words.now) (I.seen inputs.old).named 3 result.trace
+        (O.seen out.old) (O.seen out.new) }
+    ensures unread { result.status ≡ 4
+        → IsUnread (work_of words.now) (I.seen inputs.old).named
+        (I.seen inputs.old) (I.seen inputs.new) (O.seen out.old) (O.seen out.new) }
+    ensures unwritten { result.status ≡ 5 → Rose (O.seen out.old).faults (O.seen out.new).faults }
+    ensures long { result.status ≡ 7
+        → IsLong (work_of words.now) (I.seen inputs.old).named
+        (I.seen inputs.old) (I.seen inputs.new) result.trace (O.seen out.old) (O.seen out.new) }
+    ensures later { result.status ≡ 8
+        → Judges (work_of words.now) (I.seen inputs.old).named 8 result.trace
+        (O.seen out.old) (O.seen out.new) }
+    ensures bound { result.status ≤ 8 }
 
-    // One finding gave status, trace, text and the names asked for; or memory ran out first. Only work that was done has a trace.
-    ensures found { EndsBy (work_of words.now) (I.named inputs.old) (seen (I.asked inputs.old) (I.faults inputs.old) (I.taken inputs.old)) (seen (I.asked inputs.new) (I.faults inputs.new) (I.taken inputs.new)) result.status (map entry_value result.trace.items) (O.written out.old) (O.written out.new) (O.faults out.old) (O.faults out.new) }
-    ensures bare { (map entry_value result.trace.items ≡ []) ⊎ ((result.status ≡ 0) ⊎ ((result.status ≡ 5) ⊎ (result.status ≡ 6))) }
+    // One finding gave status, trace, text and the names asked for; or memory ran out first. Only
+    // work that was done has a trace.
+    ensures found { EndsBy (work_of words.now) (I.seen inputs.old).named
+        (I.seen inputs.old) (I.seen inputs.new) result.status result.trace
+        (O.seen out.old) (O.seen out.new) }
+    ensures traced { IsTraced result.status result.trace }
 
     // The inputs stay, and counts never fall.
-    ensures named { I.named inputs.new ≡ I.named inputs.old }
-    ensures counts { (I.faults inputs.old ≤ I.faults inputs.new) × (O.faults out.old ≤ O.faults out.new) }
+    ensures frame { Follows (I.seen inputs.old) (I.seen inputs.new) }
+    ensures counts { (O.seen out.old).faults ≤ (O.seen out.new).faults }
 {
     match find(alloc, words, inputs) {
         Ok(found) => say(out, found),

@@ -1,17 +1,19 @@
-//! A file is judged as it is read: its headers and its offset list are looked at, and all else is passed by.
+//! A file is judged as it is read: its headers and its offset list are looked at, and all else is
+//! passed by.
 
-ghost use Rattle.std.specs.Prelude.{◌≡◌, ℕ, ◌+◌, ◌-◌, ◌^◌, ◌≤◌, ◌<◌, List, [], drop, length, IfOk, IsErrOf};
+ghost use Rattle.std.specs.Prelude.{◌≡◌, ℕ, ◌+◌, ◌-◌, ◌^◌, ◌≤◌, ◌<◌, List, [], drop, length, IfOk};
+ghost use Rattle.std.specs.Prelude.{IsErrOf};
 ghost use Rattle.std.specs.Io.KnownBytes.{IsAtEnd};
 ghost use Rattle.cu_base.specs.Causes.{HasCauseOf};
 ghost use Rattle.cu_io.specs.Streams.{Goes, Passes};
 ghost use Rattle.capsule_grammar.specs.Refusals.{fmp_rows};
-ghost use Rattle.capsule_tool.specs.Check.{verdict_of};
+ghost use Rattle.capsule_tool.specs.Verdicts.{verdict_of};
 ghost use Rattle.capsule_tool.specs.Scans.{Scans, ScansFile, IsFound};
 
 mod body;
 mod stop;
 
-use crate::check::Verdict;
+use crate::verdict::Verdict;
 use body::scan_body;
 use capsule_grammar::{Refusal, check_capsule_header, is_fmp_guid};
 use cu_base::MAX_CAPSULE_BYTES;
@@ -23,12 +25,16 @@ use stop::ScanStop;
 /// The bytes of the fields of a capsule header.
 const HEADER_BYTES: usize = CAPSULE_HEADER_BYTES as usize;
 
-/// Judges the file that a stream begins, which is read to its end. TooLong comes exactly where it has more
-/// than 67,108,864 bytes, after one more was taken, and Read only where the source's count rose.
+/// Judges the file that a stream begins, which is read to its end. TooLong comes exactly where it
+/// has more than 67,108,864 bytes, after one more was taken, and Read only where the source's count
+/// rose.
 pub fn judge_stream<S: Source>(alloc: Global, stream: &mut Stream<S>) -> Result<Verdict, ReadFault>
     requires begun { stream.old.place ≡ 0 }
-    ensures judged { IfOk result (λ verdict. (bytes : List ℕ) × Goes bytes stream.old stream.new × IsAtEnd stream.new.left × (length bytes ≤ MAX_CAPSULE_BYTES) × (verdict ≡ verdict_of bytes)) }
-    ensures too_long { IsErrOf result ReadFault.TooLong → Passes (MAX_CAPSULE_BYTES + 1) stream.old stream.new }
+    ensures judged { IfOk result (λ verdict. (bytes : List ℕ) × Goes bytes stream.old stream.new
+        × IsAtEnd stream.new.left × (length bytes ≤ MAX_CAPSULE_BYTES)
+        × (verdict ≡ verdict_of bytes)) }
+    ensures too_long { IsErrOf result ReadFault.TooLong
+        → Passes (MAX_CAPSULE_BYTES + 1) stream.old stream.new }
     ensures cause { HasCauseOf ReadFault.Read stream.old.faults stream.new.faults result }
 {
     let mut head = [0u8; HEADER_BYTES];
@@ -41,7 +47,8 @@ pub fn judge_stream<S: Source>(alloc: Global, stream: &mut Stream<S>) -> Result<
     }
 }
 
-/// Passes by the rest of a file, whose first bytes are `head`, and judges it by what was found of its body.
+/// Passes by the rest of a file, whose first bytes are `head`, and judges it by what was found of
+/// its body.
 fn judge_rest<S: Source>(
     stream: &mut Stream<S>,
     head: &[u8],
@@ -49,8 +56,12 @@ fn judge_rest<S: Source>(
 ) -> Result<Verdict, ReadFault>
     requires head { length head.now ≡ 28 }
     requires place { stream.old.place ≤ MAX_CAPSULE_BYTES }
-    ensures judged { IfOk result (λ verdict. (rest : List ℕ) × Goes rest stream.old stream.new × IsAtEnd stream.new.left × (stream.new.place ≤ MAX_CAPSULE_BYTES) × ((file : List ℕ) → IsFound head.now stream.new.place found file → verdict ≡ verdict_of file)) }
-    ensures too_long { IsErrOf result ReadFault.TooLong → Passes (MAX_CAPSULE_BYTES + 1 - stream.old.place) stream.old stream.new }
+    ensures judged { IfOk result (λ verdict. (rest : List ℕ) × Goes rest stream.old stream.new
+        × IsAtEnd stream.new.left × (stream.new.place ≤ MAX_CAPSULE_BYTES)
+        × ((file : List ℕ) → IsFound head.now stream.new.place found file
+        → verdict ≡ verdict_of file)) }
+    ensures too_long { IsErrOf result ReadFault.TooLong
+        → Passes (MAX_CAPSULE_BYTES + 1 - stream.old.place) stream.old stream.new }
     ensures cause { HasCauseOf ReadFault.Read stream.old.faults stream.new.faults result }
 {
     match stream.pass(MAX_CAPSULE_BYTES as u64 + 1 - stream.place()) {
@@ -60,7 +71,8 @@ fn judge_rest<S: Source>(
     }
 }
 
-/// The verdict on a file of `size` bytes, of which `head` has the first ones, by what was found of its body.
+/// The verdict on a file of `size` bytes, of which `head` has the first ones, by what was found of
+/// its body.
 fn verdict(head: &[u8], size: u64, found: Result<(), Refusal>) -> Verdict
     requires head { length head.now ≡ 28 }
     requires small { size < 2 ^ 32 }
@@ -106,7 +118,9 @@ fn scan_rest<S: Source>(
     requires within { header.now.header_size ≤ header.now.image_size }
     requires limit { header.now.image_size ≤ MAX_CAPSULE_BYTES }
     requires begun { stream.old.place ≡ 28 }
-    ensures scan { Scans (header.now.image_size - 28) (λ rest. fmp_rows (drop (header.now.header_size - 28) rest) header.now.header_size) [] stream.old stream.new result }
+    ensures scan { Scans (header.now.image_size - 28)
+        (λ rest. fmp_rows (drop (header.now.header_size - 28) rest) header.now.header_size) []
+        stream.old stream.new result }
     ensures later { stream.old.faults ≤ stream.new.faults }
 {
     stream.pass((header.header_size - CAPSULE_HEADER_BYTES) as u64)?;

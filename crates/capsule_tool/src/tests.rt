@@ -3,7 +3,7 @@ mod plays;
 
 use super::*;
 use cu_base::{Blob, Numbers};
-use cu_io::{MemInputs, MemSink};
+use cu_io::{Inputs, MemInputs, MemSink, Sink};
 use std::process::Abort;
 use std::test::Fail;
 
@@ -28,123 +28,6 @@ fn joined(alloc: Global, pieces: &[&[u8]]) -> Result<Blob, NoMemory> {
         bytes.push_slice(*piece)?;
     }
     Ok(bytes)
-}
-
-/// What a run is given: one input, and the numbers of the calls that fail.
-#[derive(Drop)]
-struct Given<'a> {
-    name: &'a str,
-    pieces: &'a [&'a [u8]],
-    open_fails: &'a [u64],
-    read_fails: &'a [u64],
-    write_fails: &'a [u64],
-}
-
-/// The input `a.cap` of these pieces, and no call that fails.
-fn input<'a>(pieces: &'a [&'a [u8]]) -> Given<'a> {
-    Given {
-        name: "a.cap",
-        pieces,
-        open_fails: &[],
-        read_fails: &[],
-        write_fails: &[],
-    }
-}
-
-/// Runs the words and compares status and what was written.
-fn expect_bytes(
-    rt: &(impl Abort + AllocGlobal),
-    words: &[&str],
-    given: &Given<'_>,
-    status: u8,
-    written: &[u8],
-) -> Result<(), NoMemory> {
-    let alloc = rt.alloc();
-    let mut list = Names::new(alloc);
-    for word in words {
-        list.push(Text::from_str(alloc, *word)?)?;
-    }
-    let open_fails = Numbers::from_slice(alloc, given.open_fails)?;
-    let read_fails = Numbers::from_slice(alloc, given.read_fails)?;
-    let mut inputs = MemInputs::new(alloc, open_fails, read_fails);
-    inputs.add(
-        Text::from_str(alloc, given.name)?,
-        joined(alloc, given.pieces)?,
-    )?;
-    let mut out = MemSink::new(alloc, Numbers::from_slice(alloc, given.write_fails)?);
-    let outcome = run(alloc, list.as_slice(), &mut inputs, &mut out);
-    assert_eq!(rt; outcome.status, status);
-    assert!(rt; out.as_slice() == written);
-    Ok(())
-}
-
-/// The same for a text.
-fn expect(
-    rt: &(impl Abort + AllocGlobal),
-    words: &[&str],
-    given: &Given<'_>,
-    status: u8,
-    text: &str,
-) -> Result<(), NoMemory> {
-    expect_bytes(rt, words, given, status, text.as_bytes())
-}
-
-#[test]
-fn checks_the_smallest_capsule(rt: HostRuntime) -> Result<(), Fail> {
-    let whole: [&[u8]; 2] = [&GUID, &REST];
-    expect(&rt, &["check", "a.cap"], &input(&whole), 0, "ok 32\n")?;
-    expect(
-        &rt,
-        &["check", "a.cap"],
-        &input(&[]),
-        1,
-        "refused 0 Short\n",
-    )?;
-    expect(
-        &rt,
-        &["check", "a.cap"],
-        &input(&[&GUID, &REST[..11]]),
-        1,
-        "refused 0 Short\n",
-    )?;
-    expect(
-        &rt,
-        &["check", "a.cap"],
-        &input(&[&GUID, &REST[..15]]),
-        1,
-        "refused 24 BadImageSize\n",
-    )?;
-    expect(
-        &rt,
-        &["check", "a.cap"],
-        &input(&[&GUID, &REST, &[0]]),
-        1,
-        "refused 32 Trailing\n",
-    )?;
-    Ok(())
-}
-
-#[test]
-fn checks_the_header_size(rt: HostRuntime) -> Result<(), Fail> {
-    let below: [&[u8]; 3] = [&GUID, &[0x1b], &REST[1..]];
-    let whole: [&[u8]; 3] = [&GUID, &[0x20], &REST[1..]];
-    let above: [&[u8]; 3] = [&GUID, &[0x21], &REST[1..]];
-    expect(
-        &rt,
-        &["check", "a.cap"],
-        &input(&below),
-        1,
-        "refused 16 BadHeaderSize\n",
-    )?;
-    expect(&rt, &["check", "a.cap"], &input(&whole), 0, "ok 32\n")?;
-    expect(
-        &rt,
-        &["check", "a.cap"],
-        &input(&above),
-        1,
-        "refused 16 BadHeaderSize\n",
-    )?;
-    Ok(())
 }
 
 /// HeaderSize, flags 0x00050000 and CapsuleImageSize.
@@ -195,27 +78,180 @@ const IMAGE_3_OF_ONE_BYTE: [u8; 32] = [
     3, 0, 0, 0, 0, 0, 0, 0, 0, 0, 0, 0, 0, 0, 0, 0, 0, 0, 0, 0, 0, 0, 0, 0, 1, 0, 0, 0, 0, 0, 0, 0,
 ];
 
+/// Runs the words, with no contract, so that no test carries that of `run` into its goals.
+fn run_words<I: Inputs, O: Sink>(
+    alloc: Global,
+    words: &[&str],
+    inputs: &mut I,
+    out: &mut O,
+) -> Result<Outcome, NoMemory> {
+    let mut list = Names::new(alloc);
+    for word in words {
+        list.push(Text::from_str(alloc, *word)?)?;
+    }
+    Ok(run(alloc, list.as_slice(), inputs, out))
+}
+
+/// The numbers of the calls that fail: of opening, of reading at each source, and of writing.
+#[derive(Clone, Copy)]
+struct Faults<'a> {
+    open: &'a [u64],
+    read: &'a [u64],
+    write: &'a [u64],
+}
+
+/// No call fails.
+const CALM: Faults<'static> = Faults {
+    open: &[],
+    read: &[],
+    write: &[],
+};
+
+/// A run over the input `a.cap`: its words, the pieces of the input, and the status and text that
+/// it ends with.
+#[derive(Clone, Copy)]
+struct Case<'a> {
+    name: &'a str,
+    words: &'a [&'a str],
+    pieces: &'a [&'a [u8]],
+    faults: Faults<'a>,
+    status: u8,
+    text: &'a [u8],
+}
+
+/// A check of `a.cap` where no call fails.
+fn check<'a>(name: &'a str, pieces: &'a [&'a [u8]], status: u8, text: &'a str) -> Case<'a> {
+    Case {
+        name,
+        words: &["check", "a.cap"],
+        pieces,
+        faults: CALM,
+        status,
+        text: text.as_bytes(),
+    }
+}
+
+/// A rebuild of `a.cap` where no call fails.
+fn rebuild<'a>(name: &'a str, pieces: &'a [&'a [u8]], status: u8, text: &'a [u8]) -> Case<'a> {
+    Case {
+        name,
+        words: &["rebuild", "a.cap"],
+        pieces,
+        faults: CALM,
+        status,
+        text,
+    }
+}
+
+/// These words over a capsule of 32 bytes, where the calls of these numbers fail.
+fn failing<'a>(
+    name: &'a str,
+    words: &'a [&'a str],
+    open: &'a [u64],
+    read: &'a [u64],
+    write: &'a [u64],
+    status: u8,
+    text: &'a str,
+) -> Case<'a> {
+    Case {
+        name,
+        words,
+        pieces: &[&GUID, &REST],
+        faults: Faults { open, read, write },
+        status,
+        text: text.as_bytes(),
+    }
+}
+
+/// Runs these words where no call fails and `a.cap` is empty.
+fn words<'a>(words: &'a [&'a str], status: u8, text: &'a str) -> Case<'a> {
+    Case {
+        name: "words",
+        words,
+        pieces: &[],
+        faults: CALM,
+        status,
+        text: text.as_bytes(),
+    }
+}
+
+/// Runs a case, and compares status and what was written.
+fn expect(rt: &(impl Abort + AllocGlobal), case: &Case<'_>) -> Result<(), NoMemory> {
+    let alloc = rt.alloc();
+    let open_fails = Numbers::from_slice(alloc, case.faults.open)?;
+    let read_fails = Numbers::from_slice(alloc, case.faults.read)?;
+    let mut inputs = MemInputs::new(alloc, open_fails, read_fails);
+    inputs.add(Text::from_str(alloc, "a.cap")?, joined(alloc, case.pieces)?)?;
+    let mut out = MemSink::new(alloc, Numbers::from_slice(alloc, case.faults.write)?);
+    let outcome = run_words(alloc, case.words, &mut inputs, &mut out)?;
+    let same = outcome.status == case.status && out.as_slice() == case.text;
+    assert!(rt; same, "{}", case.name);
+    Ok(())
+}
+
+#[test]
+fn checks_the_smallest_capsule(rt: HostRuntime) -> Result<(), Fail> {
+    let cut: [&[u8]; 2] = [&GUID, &REST[..11]];
+    let last: [&[u8]; 2] = [&GUID, &REST[..15]];
+    let below: [&[u8]; 3] = [&GUID, &[0x1b], &REST[1..]];
+    let ext: [&[u8]; 3] = [&GUID, &[0x20], &REST[1..]];
+    let above: [&[u8]; 3] = [&GUID, &[0x21], &REST[1..]];
+    expect(&rt, &check("whole", &[&GUID, &REST], 0, "ok 32\n"))?;
+    expect(&rt, &check("empty", &[], 1, "refused 0 Short\n"))?;
+    expect(&rt, &check("27 bytes", &cut, 1, "refused 0 Short\n"))?;
+    expect(
+        &rt,
+        &check("31 bytes", &last, 1, "refused 24 BadImageSize\n"),
+    )?;
+    expect(
+        &rt,
+        &check(
+            "33 bytes",
+            &[&GUID, &REST, &[0]],
+            1,
+            "refused 32 Trailing\n",
+        ),
+    )?;
+    expect(
+        &rt,
+        &check("HeaderSize 27", &below, 1, "refused 16 BadHeaderSize\n"),
+    )?;
+    expect(&rt, &check("HeaderSize 32", &ext, 0, "ok 32\n"))?;
+    expect(
+        &rt,
+        &check("HeaderSize 33", &above, 1, "refused 16 BadHeaderSize\n"),
+    )?;
+    Ok(())
+}
+
 #[test]
 fn checks_the_offset_list(rt: HostRuntime) -> Result<(), Fail> {
-    let no_items: [&[u8]; 3] = [&FMP, &SIZES_28_36, &NO_ITEMS];
-    expect(&rt, &["check", "a.cap"], &input(&no_items), 0, "ok 36\n")?;
-    let with_ext: [&[u8]; 4] = [&FMP, &SIZES_32_40, &[0; 4], &NO_ITEMS];
-    expect(&rt, &["check", "a.cap"], &input(&with_ext), 0, "ok 40\n")?;
     let equal: [&[u8]; 6] = [&FMP, &SIZES_28_84, &TWO_ITEMS, &AT_24, &AT_24, &[0; 32]];
     expect(
         &rt,
-        &["check", "a.cap"],
-        &input(&equal),
-        1,
-        "refused 44 OffsetsNotRising\n",
+        &check("no items", &[&FMP, &SIZES_28_36, &NO_ITEMS], 0, "ok 36\n"),
     )?;
-    let cut: [&[u8]; 2] = [&FMP, &REST];
     expect(
         &rt,
-        &["check", "a.cap"],
-        &input(&cut),
-        1,
-        "refused 28 Short\n",
+        &check(
+            "behind an extended header",
+            &[&FMP, &SIZES_32_40, &[0; 4], &NO_ITEMS],
+            0,
+            "ok 40\n",
+        ),
+    )?;
+    expect(
+        &rt,
+        &check("equal offsets", &equal, 1, "refused 44 OffsetsNotRising\n"),
+    )?;
+    expect(
+        &rt,
+        &check(
+            "a body of four bytes",
+            &[&FMP, &REST],
+            1,
+            "refused 28 Short\n",
+        ),
     )?;
     Ok(())
 }
@@ -223,24 +259,9 @@ fn checks_the_offset_list(rt: HostRuntime) -> Result<(), Fail> {
 #[test]
 fn checks_one_image_of_each_version(rt: HostRuntime) -> Result<(), Fail> {
     let first: [&[u8]; 5] = [&FMP, &SIZES_28_76, &ONE_ITEM, &AT_16, &IMAGE_1];
-    expect(&rt, &["check", "a.cap"], &input(&first), 0, "ok 76\n")?;
     let second: [&[u8]; 6] = [&FMP, &SIZES_28_84, &ONE_ITEM, &AT_16, &IMAGE_2, &[0; 8]];
-    expect(&rt, &["check", "a.cap"], &input(&second), 0, "ok 84\n")?;
     let third: [&[u8]; 6] = [&FMP, &SIZES_28_92, &ONE_ITEM, &AT_16, &IMAGE_3, &[0; 16]];
-    expect(&rt, &["check", "a.cap"], &input(&third), 0, "ok 92\n")?;
-    Ok(())
-}
-
-#[test]
-fn refuses_images(rt: HostRuntime) -> Result<(), Fail> {
     let fourth: [&[u8]; 6] = [&FMP, &SIZES_28_92, &ONE_ITEM, &AT_16, &IMAGE_4, &[0; 16]];
-    expect(
-        &rt,
-        &["check", "a.cap"],
-        &input(&fourth),
-        1,
-        "refused 44 BadImageVersion\n",
-    )?;
     let outside: [&[u8]; 6] = [
         &FMP,
         &SIZES_28_92,
@@ -249,12 +270,21 @@ fn refuses_images(rt: HostRuntime) -> Result<(), Fail> {
         &IMAGE_3_OF_ONE_BYTE,
         &[0; 16],
     ];
+    expect(&rt, &check("version 1", &first, 0, "ok 76\n"))?;
+    expect(&rt, &check("version 2", &second, 0, "ok 84\n"))?;
+    expect(&rt, &check("version 3", &third, 0, "ok 92\n"))?;
     expect(
         &rt,
-        &["check", "a.cap"],
-        &input(&outside),
-        1,
-        "refused 68 ImageOutside\n",
+        &check("version 4", &fourth, 1, "refused 44 BadImageVersion\n"),
+    )?;
+    expect(
+        &rt,
+        &check(
+            "an image past the end",
+            &outside,
+            1,
+            "refused 68 ImageOutside\n",
+        ),
     )?;
     Ok(())
 }
@@ -270,136 +300,113 @@ fn rebuilds_without_a_lead_and_a_pad(rt: HostRuntime) -> Result<(), Fail> {
         &IMAGE_1,
         &[9, 9, 9],
     ];
-    expect(&rt, &["check", "a.cap"], &input(&padded), 0, "ok 81\n")?;
     let plain: [&[u8]; 5] = [&FMP, &SIZES_28_76, &ONE_ITEM, &AT_16, &IMAGE_1];
-    let written = joined(rt.alloc(), &plain)?;
-    expect_bytes(
-        &rt,
-        &["rebuild", "a.cap"],
-        &input(&padded),
-        0,
-        written.as_slice(),
-    )?;
-    expect_bytes(
-        &rt,
-        &["rebuild", "a.cap"],
-        &input(&plain),
-        0,
-        written.as_slice(),
-    )?;
+    let with_ext: [&[u8]; 3] = [&GUID, &[0x20], &REST[1..]];
+    let rebuilt = joined(rt.alloc(), &plain)?;
+    let kept = joined(rt.alloc(), &with_ext)?;
+    expect(&rt, &check("with lead and pad", &padded, 0, "ok 81\n"))?;
+    expect(&rt, &rebuild("padded", &padded, 0, rebuilt.as_slice()))?;
+    expect(&rt, &rebuild("plain", &plain, 0, rebuilt.as_slice()))?;
+    expect(&rt, &rebuild("extended", &with_ext, 0, kept.as_slice()))?;
+    expect(&rt, &rebuild("empty", &[], 1, b"refused 0 Short\n"))?;
+    expect(&rt, &words(&["rebuild", "none"], 4, "unread none\n"))?;
     Ok(())
 }
 
 #[test]
-fn rebuilds_what_follows_the_header(rt: HostRuntime) -> Result<(), Fail> {
-    let with_ext: [&[u8]; 3] = [&GUID, &[0x20], &REST[1..]];
-    let written = joined(rt.alloc(), &with_ext)?;
-    expect_bytes(
+fn answers_words(rt: HostRuntime) -> Result<(), Fail> {
+    let usage =
+        "usage: check FILE | show FILE | rebuild FILE | make RECIPE | play BOARD SCRIPT | load N\n";
+    expect(&rt, &words(&["chek", "x"], 2, usage))?;
+    expect(&rt, &words(&[], 2, usage))?;
+    expect(&rt, &words(&["check"], 2, usage))?;
+    expect(&rt, &words(&["check", "a.cap", "b.cap"], 2, usage))?;
+    expect(&rt, &words(&["load", "0"], 2, usage))?;
+    expect(&rt, &words(&["load", "1001"], 2, usage))?;
+    expect(&rt, &words(&["load", "01"], 2, usage))?;
+    expect(&rt, &words(&["load", "+1"], 2, usage))?;
+    expect(&rt, &words(&["show", "a.cap"], 8, "later show\n"))?;
+    expect(&rt, &words(&["make", "a.toml"], 8, "later make\n"))?;
+    expect(&rt, &words(&["load", "1"], 8, "later load\n"))?;
+    expect(&rt, &words(&["load", "1000"], 8, "later load\n"))?;
+    expect(&rt, &words(&["check", "none"], 4, "unread none\n"))?;
+    Ok(())
+}
+
+/// The reads of a capsule of 32 bytes: its header, the rest, and the end.
+#[test]
+fn answers_failing_calls(rt: HostRuntime) -> Result<(), Fail> {
+    let unread = "unread a.cap\n";
+    expect(
         &rt,
-        &["rebuild", "a.cap"],
-        &input(&with_ext),
-        0,
-        written.as_slice(),
+        &failing("open", &["check", "a.cap"], &[1], &[], &[], 4, unread),
     )?;
     expect(
         &rt,
-        &["rebuild", "a.cap"],
-        &input(&[]),
-        1,
-        "refused 0 Short\n",
+        &failing("first read", &["check", "a.cap"], &[], &[1], &[], 4, unread),
     )?;
-    expect(&rt, &["rebuild", "none"], &input(&[]), 4, "unread none\n")?;
-    Ok(())
-}
-
-#[test]
-fn answers_words_of_no_form(rt: HostRuntime) -> Result<(), Fail> {
-    let usage =
-        "usage: check FILE | show FILE | rebuild FILE | make RECIPE | play BOARD SCRIPT | load N\n";
-    expect(&rt, &["chek", "x"], &input(&[]), 2, usage)?;
-    expect(&rt, &[], &input(&[]), 2, usage)?;
-    expect(&rt, &["check"], &input(&[]), 2, usage)?;
-    expect(&rt, &["check", "a.cap", "b.cap"], &input(&[]), 2, usage)?;
-    expect(&rt, &["load", "0"], &input(&[]), 2, usage)?;
-    expect(&rt, &["load", "1001"], &input(&[]), 2, usage)?;
-    expect(&rt, &["load", "01"], &input(&[]), 2, usage)?;
-    expect(&rt, &["load", "+1"], &input(&[]), 2, usage)?;
-    Ok(())
-}
-
-#[test]
-fn answers_what_is_built_later(rt: HostRuntime) -> Result<(), Fail> {
-    expect(&rt, &["show", "a.cap"], &input(&[]), 8, "later show\n")?;
-    expect(&rt, &["make", "a.toml"], &input(&[]), 8, "later make\n")?;
-    expect(&rt, &["load", "1"], &input(&[]), 8, "later load\n")?;
-    expect(&rt, &["load", "1000"], &input(&[]), 8, "later load\n")?;
-    Ok(())
-}
-
-#[test]
-fn answers_missing_and_failing_inputs(rt: HostRuntime) -> Result<(), Fail> {
-    let whole: [&[u8]; 2] = [&GUID, &REST];
-    expect(&rt, &["check", "none"], &input(&whole), 4, "unread none\n")?;
-    let opening = Given {
-        open_fails: &[1],
-        ..input(&whole)
-    };
-    expect(&rt, &["check", "a.cap"], &opening, 4, "unread a.cap\n")?;
-    let first = Given {
-        read_fails: &[1],
-        ..input(&whole)
-    };
-    expect(&rt, &["check", "a.cap"], &first, 4, "unread a.cap\n")?;
-    let rest = Given {
-        read_fails: &[2],
-        ..input(&whole)
-    };
-    expect(&rt, &["check", "a.cap"], &rest, 4, "unread a.cap\n")?;
-    let end = Given {
-        read_fails: &[3],
-        ..input(&whole)
-    };
-    expect(&rt, &["check", "a.cap"], &end, 4, "unread a.cap\n")?;
-    let beyond = Given {
-        read_fails: &[4],
-        ..input(&whole)
-    };
-    expect(&rt, &["check", "a.cap"], &beyond, 0, "ok 32\n")?;
-    Ok(())
-}
-
-#[test]
-fn answers_a_failing_sink(rt: HostRuntime) -> Result<(), Fail> {
-    let whole: [&[u8]; 2] = [&GUID, &REST];
-    let writing = Given {
-        write_fails: &[1],
-        ..input(&whole)
-    };
-    expect(&rt, &["check", "a.cap"], &writing, 5, "")?;
-    expect(&rt, &["check", "none"], &writing, 5, "")?;
-    expect(&rt, &["chek", "x"], &writing, 5, "")?;
+    expect(
+        &rt,
+        &failing(
+            "second read",
+            &["check", "a.cap"],
+            &[],
+            &[2],
+            &[],
+            4,
+            unread,
+        ),
+    )?;
+    expect(
+        &rt,
+        &failing("third read", &["check", "a.cap"], &[], &[3], &[], 4, unread),
+    )?;
+    expect(
+        &rt,
+        &failing(
+            "fourth read",
+            &["check", "a.cap"],
+            &[],
+            &[4],
+            &[],
+            0,
+            "ok 32\n",
+        ),
+    )?;
+    expect(
+        &rt,
+        &failing("write", &["check", "a.cap"], &[], &[], &[1], 5, ""),
+    )?;
+    expect(
+        &rt,
+        &failing("write of unread", &["check", "none"], &[], &[], &[1], 5, ""),
+    )?;
+    expect(
+        &rt,
+        &failing("write of usage", &["chek", "x"], &[], &[], &[1], 5, ""),
+    )?;
     Ok(())
 }
 
 /// 65,536 zero bytes, 1,024 times, and one byte more than a capsule may have.
 #[test]
 fn answers_a_long_file(rt: HostRuntime) -> Result<(), Fail> {
-    let alloc = rt.alloc();
     let piece = [0u8; 65_536];
-    let mut inputs = MemInputs::new(alloc, Numbers::new(alloc), Numbers::new(alloc));
-    let mut bytes = Blob::new(alloc);
+    let mut bytes = Blob::new(rt.alloc());
     for _ in 0..1_024 {
         bytes.push_slice(&piece)?;
     }
-    bytes.push_slice(&[0])?;
-    inputs.add(Text::from_str(alloc, "long")?, bytes)?;
-    let mut out = MemSink::new(alloc, Numbers::new(alloc));
-    let words = [
-        Text::from_str(alloc, "check")?,
-        Text::from_str(alloc, "long")?,
-    ];
-    let outcome = run(alloc, &words, &mut inputs, &mut out);
-    assert_eq!(rt; outcome.status, 7);
-    assert!(rt; out.as_slice() == b"long long\n".as_slice());
+    let largest: [&[u8]; 1] = [bytes.as_slice()];
+    let long: [&[u8]; 2] = [bytes.as_slice(), &[0]];
+    expect(
+        &rt,
+        &check(
+            "of the most bytes",
+            &largest,
+            1,
+            "refused 16 BadHeaderSize\n",
+        ),
+    )?;
+    expect(&rt, &check("long", &long, 7, "long a.cap\n"))?;
     Ok(())
 }

@@ -1,3 +1,4 @@
 pub mod Named
 pub mod Numbered
+pub mod Seen
 pub mod Streams

@@ -9,7 +9,8 @@ Named = List (List ℕ × List ℕ)
 -- the bytes of a name, those of its first pair
 abbrev pub bytes_named : Named → List ℕ → Option (List ℕ)
 bytes_named [] name = None
-bytes_named (pair ∷ pairs) name = if bytes_eq pair.0 name then Some pair.1 else bytes_named pairs name
+bytes_named (pair ∷ pairs) name = if bytes_eq pair.0 name then
+    Some pair.1 else bytes_named pairs name
 
 -- the name is not there
 abbrev pub LacksName : Named → List ℕ → Type 0

@@ -1,37 +1,50 @@
-//! Inputs that are files, and a sink that is the standard output. They tell no content: what the
-//! operating system gives and takes is trusted.
+//! Readers and writers of std as sources and sinks, and inputs that are files.
 ghost use Rattle.std.specs.Prelude.{◌≡◌, []};
 
 use crate::{Inputs, OpenFault, Sink, SinkFault, Source};
 use cu_base::{Failed, Names, Text};
 use std::alloc::Global;
 use std::fs::{File, OpenFile};
-use std::io;
 use std::io::{BufReader, Read, Write};
 use std::rt::Files;
 
 /// The most bytes that are read ahead of a file.
 const AHEAD_BYTES: usize = 65_536;
 
-/// A file that is read. It tells no content. Small reads are served from bytes that were read ahead.
+/// A reader of std as a source: it tells what the reader tells of the bytes that remain. A read
+/// that answers an error is a counted fault.
 #[derive(Drop)]
-pub struct FileSource<F: Read + OpenFile + Drop> {
-    file: BufReader<F>,
+pub struct FileSource<R: Read + Drop> {
+    reader: R,
+    expected: u64,
     taken: u64,
     faults: u64,
 }
 
-impl<F: Read + OpenFile + Drop> Source for FileSource<F> {
-    ghost use Rattle.std.specs.Prelude.{None};
+impl<R: Read + Drop> FileSource<R> {
+    /// The source of a reader that may have about `expected` bytes left. Nothing was read of it.
+    pub fn new(reader: R, expected: u64) -> FileSource<R>
+        ensures reader { result.reader ≡ reader }
+        ensures counts { (result.taken ≡ 0) × (result.faults ≡ 0) }
+    {
+        FileSource {
+            reader,
+            expected,
+            taken: 0,
+            faults: 0,
+        }
+    }
+}
 
-    ghost left = { λ _. None };
-
-    ghost taken = { λ s. s.taken };
-
-    ghost faults = { λ s. s.faults };
+impl<R: Read + Drop> Source for FileSource<R> {
+    ghost seen = { λ s. record {
+      left = R.remaining s.reader;
+      taken = s.taken;
+      faults = s.faults;
+    } };
 
     fn read(&mut self, out: &mut [u8]) -> Result<usize, Failed> {
-        match self.file.read(out) {
+        match self.reader.read(out) {
             Ok(n) => {
                 self.taken = self.taken.saturating_add(n as u64);
                 Ok(n)
@@ -44,14 +57,13 @@ impl<F: Read + OpenFile + Drop> Source for FileSource<F> {
     }
 
     fn expected_len(&self) -> u64 {
-        match self.file.get_ref().metadata() {
-            Ok(metadata) => metadata.len(),
-            Err(_) => 0,
-        }
+        self.expected
     }
 }
 
-/// The files of the runtime, by path. They tell no content, and a file that is not there is a counted fault.
+/// The files of the runtime, by path. They tell no content: what the operating system gives is
+/// trusted. A file that is not there is a counted fault. Small reads are served from bytes that
+/// were read ahead.
 #[derive(Drop)]
 pub struct FileInputs<'a, R: Files> {
     rt: &'a R,
@@ -64,8 +76,7 @@ impl<'a, R: Files> FileInputs<'a, R> {
     /// The files, of which none was asked for.
     pub fn new(alloc: Global, rt: &'a R) -> FileInputs<'a, R>
         ensures asked { result.asked.items ≡ [] }
-        ensures taken { result.taken ≡ 0 }
-        ensures faults { result.faults ≡ 0 }
+        ensures counts { (result.taken ≡ 0) × (result.faults ≡ 0) }
     {
         FileInputs {
             rt,
@@ -79,17 +90,20 @@ impl<'a, R: Files> FileInputs<'a, R> {
 impl<'a, R: Files> Inputs for FileInputs<'a, R> {
     ghost use Rattle.std.specs.Prelude.{None};
 
-    type Src = FileSource<R::File>;
+    type Src = FileSource<BufReader<R::File>>;
 
-    ghost named = { λ _. None };
+    ghost seen = { λ s. record {
+      named = None;
+      asked = s.asked.items;
+      faults = s.faults;
+      taken = s.taken;
+    } };
 
-    ghost asked = { λ s. s.asked.items };
-
-    ghost taken = { λ s. s.taken };
-
-    ghost faults = { λ s. s.faults };
-
-    fn open(&mut self, alloc: Global, name: &Text) -> Result<FileSource<R::File>, OpenFault> {
+    fn open(
+        &mut self,
+        alloc: Global,
+        name: &Text,
+    ) -> Result<FileSource<BufReader<R::File>>, OpenFault> {
         let Ok(kept) = Text::from_str(alloc, name.as_str()) else {
             return Err(OpenFault::Memory);
         };
@@ -100,47 +114,57 @@ impl<'a, R: Files> Inputs for FileInputs<'a, R> {
             self.faults = self.faults.saturating_add(1);
             return Err(OpenFault::Failed);
         };
+        let expected = len_of(&file);
         match BufReader::with_capacity(alloc, AHEAD_BYTES, file) {
-            Ok(file) => Ok(FileSource {
-                file,
-                taken: 0,
-                faults: 0,
-            }),
+            Ok(reader) => Ok(FileSource::new(reader, expected)),
             Err(_) => Err(OpenFault::Memory),
         }
     }
 
-    fn fold(&mut self, src: FileSource<R::File>) {
+    fn fold(&mut self, src: FileSource<BufReader<R::File>>) {
         self.taken = self.taken.saturating_add(src.taken);
         self.faults = self.faults.saturating_add(src.faults);
     }
 }
 
-/// The standard output. It does not tell what was written.
-#[derive(Drop)]
-pub struct StdSink<'a, P: Print> {
-    rt: &'a P,
-    faults: u64,
-}
-
-impl<'a, P: Print> StdSink<'a, P> {
-    /// The standard output of the runtime.
-    pub fn new(rt: &'a P) -> StdSink<'a, P>
-        ensures { result.faults ≡ 0 }
-    {
-        StdSink { rt, faults: 0 }
+/// The length of a file, and 0 where it is not known.
+fn len_of<F: OpenFile>(file: &F) -> u64 {
+    match file.metadata() {
+        Ok(metadata) => metadata.len(),
+        Err(_) => 0,
     }
 }
 
-impl<'a, P: Print> Sink for StdSink<'a, P> {
-    ghost use Rattle.std.specs.Prelude.{None};
+/// A writer of std as a sink: it tells what the writer tells of its contents. A write that answers
+/// an error, or takes nothing of a nonempty piece, is a counted fault.
+#[derive(Drop)]
+pub struct StdSink<W: Write + Drop> {
+    writer: W,
+    faults: u64,
+}
 
-    ghost written = { λ _. None };
+impl<W: Write + Drop> StdSink<W> {
+    /// The sink of a writer that has not failed.
+    pub fn new(writer: W) -> StdSink<W>
+        ensures writer { result.writer ≡ writer }
+        ensures counts { result.faults ≡ 0 }
+    {
+        StdSink { writer, faults: 0 }
+    }
 
-    ghost faults = { λ s. s.faults };
+    /// The writer, as far as it was written.
+    pub fn into_inner(self) -> W
+        ensures { result ≡ self.writer }
+    {
+        self.writer
+    }
+}
+
+impl<W: Write + Drop> Sink for StdSink<W> {
+    ghost seen = { λ s. record { written = W.contents s.writer; faults = s.faults } };
 
     fn write(&mut self, bytes: &[u8]) -> Result<usize, SinkFault> {
-        match io::writer(self.rt).write(bytes) {
+        match self.writer.write(bytes) {
             Ok(n) if n > 0 || bytes.is_empty() => Ok(n),
             _ => {
                 self.faults = self.faults.saturating_add(1);

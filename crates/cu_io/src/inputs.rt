@@ -1,6 +1,6 @@
-ghost use Rattle.std.specs.Prelude.{◌≡◌, ℕ, ◌+◌, ◌-◌, ◌^◌, ◌≤◌, ◌∷◌, [], ◌++◌, ◌⊎◌, min, List, Option, IfOk, IsErrOf};
-ghost use Rattle.cu_base.specs.Causes.{HasCauseOf};
-ghost use Rattle.cu_io.specs.Named.{Named, Opens, IsMissing};
+ghost use Rattle.std.specs.Prelude.{◌≡◌, IfOk, IsErrOf};
+ghost use Rattle.cu_io.specs.Named.{IsMissing};
+ghost use Rattle.cu_io.specs.Seen.{Seen, Follows, Asks, IsOpened, HasOpenCause, TakesBack};
 
 use crate::Source;
 use cu_base::Text;
@@ -22,36 +22,22 @@ pub enum OpenFault {
 pub trait Inputs {
     type Src: Source;
 
-    /// The names and the bytes of each, where they are told.
-    ghost named: { Self → Option Named };
+    /// What is seen of them: names, what was asked for, and the counts of faults and of bytes.
+    ghost seen: { Self → Seen };
 
-    /// The names that were asked for, in order.
-    ghost asked: { Self → List (List ℕ) };
-
-    /// How many bytes the sources gave that came back.
-    ghost taken: { Self → ℕ };
-
-    /// How often opening failed, and reading at the sources that came back.
-    ghost faults: { Self → ℕ };
-
-    /// Opens the input of this name. It is Missing exactly where names are told and this one is not among
-    /// them. The name is kept as asked for at every answer but Memory. The names and their bytes stay.
+    /// Opens the input of this name. It is Missing exactly where names are told and this one is not
+    /// among them, and Failed only where the count of faults rose. The name is kept as asked for at
+    /// every answer but Memory.
     fn open(&mut self, alloc: Global, name: &Text) -> Result<Self::Src, OpenFault>
-        ensures asked { IsErrOf result OpenFault.Memory ⊎ (asked self.new ≡ asked self.old ++ name.now ∷ []) }
-        ensures memory { IsErrOf result OpenFault.Memory → (asked self.new ≡ asked self.old) ⊎ (asked self.new ≡ asked self.old ++ name.now ∷ []) }
-        ensures named { named self.new ≡ named self.old }
-        ensures taken { taken self.new ≡ taken self.old }
-        ensures found { IfOk result (λ src. Opens (named self.old) name.now (Self.Src.left src)) }
-        ensures fresh { IfOk result (λ src. Self.Src.faults src ≡ 0) }
-        ensures unread { IfOk result (λ src. Self.Src.taken src ≡ 0) }
-        ensures missing { IsErrOf result OpenFault.Missing → IsMissing (named self.old) name.now }
-        ensures cause { HasCauseOf OpenFault.Failed (faults self.old) (faults self.new) result };
+        ensures ok { IfOk result (λ src. IsOpened (seen self.old) name.now (Self.Src.seen src)) }
+        ensures refused { IsErrOf result OpenFault.Missing
+            → IsMissing (seen self.old).named name.now }
+        ensures counts { Asks name.now (seen self.old) (seen self.new) result }
+        ensures frame { Follows (seen self.old) (seen self.new) }
+        ensures cause { HasOpenCause (seen self.old) (seen self.new) result };
 
     /// Takes a source back: its faults and the bytes that it gave are added to the counts.
     fn fold(&mut self, src: Self::Src)
-        ensures asked { asked self.new ≡ asked self.old }
-        ensures named { named self.new ≡ named self.old }
-        ensures taken { taken self.new ≡ min (taken self.old + Self.Src.taken src) (2 ^ 64 - 1) }
-        ensures faults { faults self.new ≡ min (faults self.old + Self.Src.faults src) (2 ^ 64 - 1) }
-        ensures later { faults self.old ≤ faults self.new };
+        ensures counts { TakesBack (Self.Src.seen src) (seen self.old) (seen self.new) }
+        ensures frame { Follows (seen self.old) (seen self.new) };
 }

@@ -1,8 +1,9 @@
-//! Where bytes come from and where they go: a source is read, a sink is written, inputs are found by name.
+//! Where bytes come from and where they go: a source is read, a sink is written, inputs are found
+//! by name.
 //!
-//! What an object of the outside holds is a meaning of its trait that may be told or not; its count of
-//! faults is always known, and a call answers a fault only where that count rose. `read_whole` gives all
-//! that was left and `write_whole` appends all, or the answer says what happened instead.
+//! What an object of the outside holds is a meaning of its trait that may be told or not; its count
+//! of faults is always known, and a call answers a fault only where that count rose. `read_whole`
+//! gives all that was left and `write_whole` appends all, or the answer says what happened instead.
 #![tactic(auto)]
 
 mod files;

@@ -1,4 +1,5 @@
-ghost use Rattle.std.specs.Prelude.{◌≡◌, ℕ, ◌+◌, ◌≤◌, ◌<◌, [], ◌∷◌, ◌++◌, length, OnOk, OnErr, IsOk, option_map, option_copied, slice_get};
+ghost use Rattle.std.specs.Prelude.{◌≡◌, ℕ, ◌+◌, ◌≤◌, ◌<◌, [], ◌∷◌, ◌++◌, length, OnOk, OnErr};
+ghost use Rattle.std.specs.Prelude.{IsOk, option_map, option_copied, slice_get};
 ghost use Rattle.cu_io.specs.Named.{bytes_named, LacksName, HasDistinctNames};
 
 use cu_base::{Blob, Items, NoMemory, Text};
@@ -38,18 +39,19 @@ impl Loaded {
         requires { LacksName self.old.items item.0 }
         ensures ok { OnOk result (self.new.items ≡ self.old.items ++ item ∷ []) }
         ensures spare { OnOk result (self.old.spare ≤ self.new.spare + 1) }
-        ensures reserved { 0 < self.old.spare → IsOk result }
+        ensures enough { 0 < self.old.spare → IsOk result }
         ensures err { OnErr result (self.new ≡ self.old) }
     {
         self.list.push(item)?;
         Ok(())
     }
 
-    /// Makes room for `n` further inputs.
+    /// Makes room for `n` further inputs. It is Ok wherever `spare` is at least `n`.
     pub fn reserve(&mut self, n: usize) -> Result<(), NoMemory>
-        ensures items { self.new.items ≡ self.old.items }
+        ensures frame { self.new.items ≡ self.old.items }
         ensures ok { OnOk result (n ≤ self.new.spare) }
         ensures spare { self.old.spare ≤ self.new.spare }
+        ensures enough { n ≤ self.old.spare → IsOk result }
         ensures err { OnErr result (self.new ≡ self.old) }
     {
         self.list.reserve(n)

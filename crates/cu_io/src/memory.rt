@@ -1,5 +1,5 @@
-//! Sources, sinks and inputs in memory. They tell all that they hold. Those of the first three kinds fail at
-//! calls of given numbers, and those of the last three never fail.
+//! Sources, sinks and inputs in memory. They tell all that they hold. Those of the first three
+//! kinds fail at calls of given numbers, and those of the last three never fail.
 
 mod inputs;
 mod known;

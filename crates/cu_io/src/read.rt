@@ -1,7 +1,6 @@
-ghost use Rattle.std.specs.Prelude.{◌≡◌, ℕ, ◌+◌, ◌<◌, ◌≤◌, ◌++◌, List, length, vec_len, IfOk, IsErrOf, OnErr};
-ghost use Rattle.std.specs.Io.KnownBytes.{Consumes, IsAtEnd};
-ghost use Rattle.cu_base.specs.Causes.{HasCauseOf, RoseBy};
-ghost use Rattle.cu_io.specs.Streams.{TakesAll, TakesMore, TakesSome};
+ghost use Rattle.std.specs.Prelude.{◌≡◌, ℕ, ◌+◌, ◌<◌, ◌≤◌, length, vec_len, IfOk, IsErrOf, OnErr};
+ghost use Rattle.std.specs.Io.KnownBytes.{IsAtEnd};
+ghost use Rattle.cu_io.specs.Streams.{TakesAll, TakesInto, TakesSome, EndsLong, ReadFails};
 
 use crate::Source;
 use cu_base::{Blob, Failed, NoMemory};
@@ -23,15 +22,14 @@ pub enum ReadFault {
 pub(crate) const PIECE_BYTES: usize = 65_536;
 
 /// All that is left. Read comes only where the source's count rose, TooLong exactly where more than
-/// `limit` bytes are left, after `limit + 1` bytes were taken. After Read and Memory a part was taken.
+/// `limit` bytes are left, after `limit + 1` bytes were taken. After Read and Memory a part was
+/// taken.
 pub fn read_whole<S: Source>(alloc: Global, source: &mut S, limit: u32) -> Result<Blob, ReadFault>
-    ensures all { IfOk result (λ bytes. TakesAll (S.left source.old) (S.left source.new) bytes) }
-    ensures short { IfOk result (λ bytes. length bytes ≤ limit) }
-    ensures too_long { IsErrOf result ReadFault.TooLong → TakesMore limit (S.left source.old) (S.left source.new) }
-    ensures counted { IfOk result (λ bytes. RoseBy (length bytes) (S.taken source.old) (S.taken source.new)) }
-    ensures taken { IsErrOf result ReadFault.TooLong → RoseBy (limit + 1) (S.taken source.old) (S.taken source.new) }
-    ensures err { OnErr result (TakesSome (limit + 1) (S.left source.old) (S.left source.new)) }
-    ensures cause { HasCauseOf ReadFault.Read (S.faults source.old) (S.faults source.new) result }
+    ensures ok { IfOk result (λ bytes. TakesAll limit bytes (S.seen source.old) (S.seen source.new))
+        }
+    ensures refused { EndsLong limit (S.seen source.old) (S.seen source.new) result }
+    ensures err { OnErr result (TakesSome (limit + 1) (S.seen source.old) (S.seen source.new)) }
+    ensures cause { ReadFails ReadFault.Read (S.seen source.old) (S.seen source.new) result }
 {
     let limit = limit as usize;
     let mut all = Blob::new(alloc);
@@ -58,12 +56,13 @@ fn take_piece<S: Source>(
     all: &mut Blob,
 ) -> Result<usize, ReadFault>
     ensures bound { IfOk result (λ n. n ≤ length piece.old) }
-    ensures bytes { IfOk result (λ n. (bytes : List ℕ) × (length bytes ≡ n) × (all.new ≡ all.old ++ bytes) × Consumes (S.left source.old) (S.left source.new) bytes) }
-    ensures end { IfOk result (λ n. n ≡ 0 → 0 < length piece.old → IsAtEnd (S.left source.new)) }
-    ensures counted { IfOk result (λ n. RoseBy n (S.taken source.old) (S.taken source.new)) }
-    ensures err { OnErr result (TakesSome (length piece.old) (S.left source.old) (S.left source.new)) }
-    ensures cause { HasCauseOf ReadFault.Read (S.faults source.old) (S.faults source.new) result }
-    ensures never { ¬ IsErrOf result ReadFault.TooLong }
+    ensures ok { IfOk result (TakesInto all.old all.new (S.seen source.old) (S.seen source.new)) }
+    ensures end { IfOk result (λ n. n ≡ 0 → 0 < length piece.old
+        → IsAtEnd (S.seen source.new).left) }
+    ensures err
+        { OnErr result (TakesSome (length piece.old) (S.seen source.old) (S.seen source.new)) }
+    ensures refused { ¬ IsErrOf result ReadFault.TooLong }
+    ensures cause { ReadFails ReadFault.Read (S.seen source.old) (S.seen source.new) result }
 {
     match source.read(piece) {
         Ok(n) => match all.push_slice(&piece[..n]) {

@@ -1,7 +1,4 @@
-ghost use Rattle.std.specs.Prelude.{ℕ, ◌<◌, List, length, Option, IfOk};
-ghost use Rattle.std.specs.Io.{WritesAtMost};
-ghost use Rattle.std.specs.Io.KnownBytes.{WriteAppends};
-ghost use Rattle.cu_base.specs.Causes.{HasCauseOf};
+ghost use Rattle.cu_io.specs.Streams.{SinkSeen, TakesPiece, Writes, WriteFails};
 
 use thiserror::Error;
 
@@ -16,17 +13,13 @@ pub enum SinkFault {
 
 /// Where bytes are written.
 pub trait Sink {
-    /// What was written, where it tells that.
-    ghost written: { Self → Option (List ℕ) };
+    /// What is seen of it: what was written, where it tells that, and how often it has failed.
+    ghost seen: { Self → SinkSeen };
 
-    /// How often it has failed.
-    ghost faults: { Self → ℕ };
-
-    /// Takes a prefix of `bytes`, at least one byte of a nonempty piece, and tells how many. A refused
-    /// write writes nothing.
+    /// Takes a prefix of `bytes`, at least one byte of a nonempty piece, and tells how many. A
+    /// refused write writes nothing.
     fn write(&mut self, bytes: &[u8]) -> Result<usize, SinkFault>
-        ensures bound { WritesAtMost result bytes.now }
-        ensures some { IfOk result (λ n. 0 < length bytes.now → 0 < n) }
-        ensures bytes { WriteAppends (written self.old) (written self.new) result bytes.now }
-        ensures cause { HasCauseOf SinkFault.Failed (faults self.old) (faults self.new) result };
+        ensures bound { TakesPiece result bytes.now }
+        ensures writes { Writes (seen self.old) (seen self.new) result bytes.now }
+        ensures cause { WriteFails SinkFault.Failed (seen self.old) (seen self.new) result };
 }

@@ -1,8 +1,10 @@
-ghost use Rattle.std.specs.Prelude.{◌≡◌, ℕ, ◌+◌, ◌^◌, ◌<◌, ◌≤◌, List, [], length, take, IfOk, OnOk, OnErr, IsErrOf};
+ghost use Rattle.std.specs.Prelude.{◌≡◌, ◌+◌, ◌^◌, ◌<◌, ◌≤◌, [], length, take, IfOk, OnOk, OnErr};
+ghost use Rattle.std.specs.Prelude.{IsErrOf};
 ghost use Rattle.std.specs.Io.{ReadsAtMost};
-ghost use Rattle.std.specs.Io.KnownBytes.{Consumes, IsAtEnd};
-ghost use Rattle.cu_base.specs.Causes.{HasCauseOf, RoseBy};
-ghost use Rattle.cu_io.specs.Streams.{Goes, Passes, GoesOn, Ends, EndsIn};
+ghost use Rattle.std.specs.Io.KnownBytes.{IsAtEnd};
+ghost use Rattle.cu_base.specs.Causes.{HasCauseOf};
+ghost use Rattle.cu_io.specs.Streams.{Takes, TakesFront, TakesMany, ReadFails};
+ghost use Rattle.cu_io.specs.Streams.{come_to, source_of, Goes, Passes, GoesOn, Ends, EndsIn};
 
 use crate::Source;
 use crate::read::{PIECE_BYTES, piece};
@@ -50,18 +52,19 @@ impl Room {
         requires some { 0 < most }
         requires room { most ≤ PIECE_BYTES }
         ensures bound { IfOk result (λ n. (0 < n) × (n ≤ most)) }
-        ensures bytes { IfOk result (λ n. (bytes : List ℕ) × (length bytes ≡ n) × Consumes (S.left source.old) (S.left source.new) bytes) }
-        ensures taken { IfOk result (λ n. RoseBy n (S.taken source.old) (S.taken source.new)) }
-        ensures err { OnErr result (Consumes (S.left source.old) (S.left source.new) [] × RoseBy 0 (S.taken source.old) (S.taken source.new)) }
-        ensures ended { IsErrOf result StreamFault.Ended → IsAtEnd (S.left source.new) }
-        ensures cause { HasCauseOf StreamFault.Failed (S.faults source.old) (S.faults source.new) result }
+        ensures ok { IfOk result (λ n. TakesMany n (S.seen source.old) (S.seen source.new)) }
+        ensures err { OnErr result (Takes [] (S.seen source.old) (S.seen source.new)) }
+        ensures refused { IsErrOf result StreamFault.Ended → IsAtEnd (S.seen source.new).left }
+        ensures cause { ReadFails StreamFault.Failed (S.seen source.old) (S.seen source.new) result
+            }
     {
         take_once(source, &mut self.piece[..most])
     }
 }
 
-/// A source that is read in order, of which only what is asked for is kept. Contracts see what is told of the
-/// source, and the place that it has come to: how many bytes came since the stream was made.
+/// A source that is read in order, of which only what is asked for is kept. Contracts see what is
+/// told of the source, and the place that it has come to: how many bytes came since the stream was
+/// made.
 pub struct Stream<S: Source> {
     source: S,
     room: Room,
@@ -69,17 +72,17 @@ pub struct Stream<S: Source> {
 }
 
 impl<S: Source> Model for Stream<S> {
-    ghost use Rattle.cu_io.specs.Streams.{Progress};
+    ghost use Rattle.cu_io.specs.Streams.{Progress, come_to};
 
     ghost Value = { Progress };
 
-    ghost view = { λ s. record { left = S.left s.source; taken = S.taken s.source; faults = S.faults s.source; place = s.place } };
+    ghost view = { λ s. come_to (S.seen s.source) s.place };
 }
 
 impl<S: Source> Stream<S> {
     /// The stream of a source.
     pub fn new(source: S, room: Room) -> Stream<S>
-        ensures { result ≡ record { left = S.left source; taken = S.taken source; faults = S.faults source; place = 0 } }
+        ensures { result ≡ come_to (S.seen source) 0 }
     {
         Stream {
             source,
@@ -90,9 +93,7 @@ impl<S: Source> Stream<S> {
 
     /// The source, as far as it was read.
     pub fn into_source(self) -> S
-        ensures left { S.left result ≡ self.left }
-        ensures taken { S.taken result ≡ self.taken }
-        ensures faults { S.faults result ≡ self.faults }
+        ensures { S.seen result ≡ source_of self }
     {
         let Stream {
             source,
@@ -109,14 +110,15 @@ impl<S: Source> Stream<S> {
         self.place
     }
 
-    /// Fills `out` with the next bytes. Ended comes where the source ends before; then what came stands at the
-    /// front of `out`. Failed comes only where the source's count rose; then some of the bytes were taken.
+    /// Fills `out` with the next bytes. Ended comes where the source ends before; then what came
+    /// stands at the front of `out`. Failed comes only where the source's count rose; then some of
+    /// the bytes were taken.
     pub fn fill(&mut self, out: &mut [u8]) -> Result<(), StreamFault>
         requires place { self.old.place + length out.old < 2 ^ 64 }
         ensures ok { OnOk result (Goes out.new self.old self.new) }
-        ensures long { length out.new ≡ length out.old }
-        ensures ended { IsErrOf result StreamFault.Ended → EndsIn out.new self.old self.new }
-        ensures some { OnErr result (GoesOn (length out.old) self.old self.new) }
+        ensures size { length out.new ≡ length out.old }
+        ensures refused { IsErrOf result StreamFault.Ended → EndsIn out.new self.old self.new }
+        ensures err { OnErr result (GoesOn (length out.old) self.old self.new) }
         ensures cause { HasCauseOf StreamFault.Failed self.old.faults self.new.faults result }
     {
         let mut filled = 0;
@@ -126,13 +128,13 @@ impl<S: Source> Stream<S> {
         Ok(())
     }
 
-    /// Passes by the next `n` bytes. Ended comes where the source ends before, Failed only where its count
-    /// rose; then some of the bytes were taken.
+    /// Passes by the next `n` bytes. Ended comes where the source ends before, Failed only where
+    /// its count rose; then some of the bytes were taken.
     pub fn pass(&mut self, n: u64) -> Result<(), StreamFault>
         requires place { self.old.place + n < 2 ^ 64 }
         ensures ok { OnOk result (Passes n self.old self.new) }
-        ensures ended { IsErrOf result StreamFault.Ended → Ends n self.old self.new }
-        ensures some { OnErr result (GoesOn n self.old self.new) }
+        ensures refused { IsErrOf result StreamFault.Ended → Ends n self.old self.new }
+        ensures err { OnErr result (GoesOn n self.old self.new) }
         ensures cause { HasCauseOf StreamFault.Failed self.old.faults self.new.faults result }
     {
         let mut passed = 0;
@@ -147,11 +149,11 @@ impl<S: Source> Stream<S> {
     fn take(&mut self, out: &mut [u8]) -> Result<usize, StreamFault>
         requires room { 0 < length out.old }
         requires place { self.old.place + length out.old < 2 ^ 64 }
-        ensures long { length out.new ≡ length out.old }
+        ensures size { length out.new ≡ length out.old }
         ensures bound { IfOk result (λ n. (0 < n) × (n ≤ length out.new)) }
         ensures ok { IfOk result (λ n. Goes (take n out.new) self.old self.new) }
         ensures err { OnErr result (Goes [] self.old self.new) }
-        ensures ended { IsErrOf result StreamFault.Ended → IsAtEnd self.new.left }
+        ensures refused { IsErrOf result StreamFault.Ended → IsAtEnd self.new.left }
         ensures cause { HasCauseOf StreamFault.Failed self.old.faults self.new.faults result }
     {
         let n = take_once(&mut self.source, out)?;
@@ -167,7 +169,7 @@ impl<S: Source> Stream<S> {
         ensures bound { IfOk result (λ n. (0 < n) × (n ≤ most)) }
         ensures ok { IfOk result (λ n. Passes n self.old self.new) }
         ensures err { OnErr result (Goes [] self.old self.new) }
-        ensures ended { IsErrOf result StreamFault.Ended → IsAtEnd self.new.left }
+        ensures refused { IsErrOf result StreamFault.Ended → IsAtEnd self.new.left }
         ensures cause { HasCauseOf StreamFault.Failed self.old.faults self.new.faults result }
     {
         let n = self.room.take(&mut self.source, most)?;
@@ -176,17 +178,16 @@ impl<S: Source> Stream<S> {
     }
 }
 
-/// Reads once, and takes at least one byte. It tells how many came, which stand at the front of `out`.
+/// Reads once, and takes at least one byte. It tells how many came, which stand at the front of
+/// `out`.
 fn take_once<S: Source>(source: &mut S, out: &mut [u8]) -> Result<usize, StreamFault>
     requires room { 0 < length out.old }
     ensures bound { ReadsAtMost result out.new }
-    ensures long { length out.new ≡ length out.old }
-    ensures some { IfOk result (λ n. 0 < n) }
-    ensures bytes { IfOk result (λ n. Consumes (S.left source.old) (S.left source.new) (take n out.new)) }
-    ensures taken { IfOk result (λ n. RoseBy n (S.taken source.old) (S.taken source.new)) }
-    ensures err { OnErr result (Consumes (S.left source.old) (S.left source.new) [] × RoseBy 0 (S.taken source.old) (S.taken source.new)) }
-    ensures ended { IsErrOf result StreamFault.Ended → IsAtEnd (S.left source.new) }
-    ensures cause { HasCauseOf StreamFault.Failed (S.faults source.old) (S.faults source.new) result }
+    ensures size { length out.new ≡ length out.old }
+    ensures ok { IfOk result (λ n. TakesFront n out.new (S.seen source.old) (S.seen source.new)) }
+    ensures err { OnErr result (Takes [] (S.seen source.old) (S.seen source.new)) }
+    ensures refused { IsErrOf result StreamFault.Ended → IsAtEnd (S.seen source.new).left }
+    ensures cause { ReadFails StreamFault.Failed (S.seen source.old) (S.seen source.new) result }
 {
     match source.read(out) {
         Ok(0) => Err(StreamFault::Ended),

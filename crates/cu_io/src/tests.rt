@@ -1,7 +1,11 @@
 ghost use Rattle.std.specs.Prelude.{◌≡◌, IfOk};
 
+mod short;
+
 use super::*;
 use cu_base::{Blob, NoMemory, Numbers, Text};
+use std::alloc::Global;
+use std::fmt::Display;
 use std::process::Abort;
 use std::test::Fail;
 
@@ -111,7 +115,8 @@ fn a_stream_goes_on_behind_a_failed_read(rt: HostRuntime) -> Result<(), Fail> {
     Ok(())
 }
 
-/// A pass of one byte more than one read takes, and a fill of more than is left: the second read fails.
+/// A pass of one byte more than one read takes, and a fill of more than is left: the second read
+/// fails.
 #[test]
 fn a_stream_fails_within_a_call(rt: HostRuntime) -> Result<(), Fail> {
     let mut passing = stream(&rt, &[0; 65_537], &[2])?;
@@ -202,5 +207,37 @@ fn files_are_read_and_missing_ones_counted(rt: HostRuntime) -> Result<(), Fail> 
     inputs.fold(opened);
     let missing = inputs.open(alloc, &Text::from_str(alloc, "/no/such/file")?);
     assert!(rt; matches!(&missing, Err(OpenFault::Failed)));
+    Ok(())
+}
+
+/// Compares what a fault is told as.
+fn expect_text(
+    rt: &(impl Abort + AllocGlobal),
+    fault: &impl Display,
+    text: &str,
+) -> Result<(), Fail> {
+    let told = format!(in rt.alloc(); "{fault}")?;
+    assert!(rt; told.as_str() == text);
+    Ok(())
+}
+
+#[test]
+fn faults_are_told_in_words(rt: HostRuntime) -> Result<(), Fail> {
+    expect_text(&rt, &OpenFault::Missing, "there is no input of this name")?;
+    expect_text(&rt, &OpenFault::Failed, "the input could not be opened")?;
+    expect_text(&rt, &OpenFault::Memory, "out of memory")?;
+    expect_text(&rt, &ReadFault::Read, "a read failed")?;
+    expect_text(
+        &rt,
+        &ReadFault::TooLong,
+        "the input is longer than its limit",
+    )?;
+    expect_text(&rt, &ReadFault::Memory, "out of memory")?;
+    expect_text(&rt, &StreamFault::Ended, "the input ends here")?;
+    expect_text(&rt, &StreamFault::Failed, "a read failed")?;
+    expect_text(&rt, &SinkFault::Failed, "the sink failed")?;
+    expect_text(&rt, &SinkFault::Memory, "out of memory")?;
+    expect_text(&rt, &WriteFault::Write, "a write failed")?;
+    expect_text(&rt, &WriteFault::Memory, "out of memory")?;
     Ok(())
 }

@@ -1,7 +1,5 @@
 ghost use Rattle.std.specs.Prelude.{OnOk};
-ghost use Rattle.std.specs.Io.KnownBytes.{Appends};
-ghost use Rattle.cu_base.specs.Causes.{HasCauseOf};
-ghost use Rattle.cu_io.specs.Streams.{AppendsFront};
+ghost use Rattle.cu_io.specs.Streams.{AppendsAll, AppendsFront, WriteFails};
 
 use crate::{Sink, SinkFault};
 use thiserror::Error;
@@ -15,12 +13,12 @@ pub enum WriteFault {
     Memory,
 }
 
-/// Appends all of the bytes. Write comes only where the sink's count rose. After a refusal a prefix of
-/// the bytes was written.
+/// Appends all of the bytes. Write comes only where the sink's count rose. After a refusal a prefix
+/// of the bytes was written.
 pub fn write_whole<K: Sink>(sink: &mut K, bytes: &[u8]) -> Result<(), WriteFault>
-    ensures ok { OnOk result (Appends (K.written sink.old) (K.written sink.new) bytes.now) }
-    ensures prefix { AppendsFront (K.written sink.old) (K.written sink.new) bytes.now }
-    ensures cause { HasCauseOf WriteFault.Write (K.faults sink.old) (K.faults sink.new) result }
+    ensures ok { OnOk result (AppendsAll (K.seen sink.old) (K.seen sink.new) bytes.now) }
+    ensures err { AppendsFront (K.seen sink.old) (K.seen sink.new) bytes.now }
+    ensures cause { WriteFails WriteFault.Write (K.seen sink.old) (K.seen sink.new) result }
 {
     let mut done = 0;
     while done < bytes.len() {

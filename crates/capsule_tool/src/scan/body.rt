@@ -1,11 +1,13 @@
 //! The scan of the body of an FMP capsule.
 
-ghost use Rattle.std.specs.Prelude.{◌≡◌, ℕ, ◌+◌, ◌-◌, ◌^◌, ◌≤◌, ◌<◌, List, [], length, None, Err, IfOk, IfErr};
+ghost use Rattle.std.specs.Prelude.{◌≡◌, ℕ, ◌+◌, ◌-◌, ◌^◌, ◌≤◌, ◌<◌, List, [], length, None, Err};
+ghost use Rattle.std.specs.Prelude.{IfOk, IfErr};
 ghost use Rattle.cu_base.specs.Refusals.{first_refusal};
 ghost use Rattle.cu_io.specs.Streams.{Goes};
-ghost use Rattle.capsule_grammar.specs.Fronts.{Begins};
 ghost use Rattle.capsule_grammar.specs.Accepted.{AreBounds};
-ghost use Rattle.capsule_grammar.specs.Refusals.{list_end, fmp_rows, fmp_front_rows, all_image_rows};
+ghost use Rattle.capsule_grammar.specs.Fronts.{Begins};
+ghost use Rattle.capsule_grammar.specs.Refusals.{list_end, fmp_rows, fmp_front_rows};
+ghost use Rattle.capsule_grammar.specs.Refusals.{all_image_rows};
 ghost use Rattle.capsule_tool.specs.Scans.{Scans, ScansImage, IsStop};
 
 use super::stop::ScanStop;
@@ -49,8 +51,10 @@ fn scan_front<S: Source>(
     ensures front { IfOk result (λ front. Goes front stream.old stream.new) }
     ensures list { IfOk result (λ front. length front ≡ list_end front) }
     ensures within { IfOk result (λ front. length front ≤ size) }
-    ensures rows { IfOk result (λ front. (body : List ℕ) → Begins front size body → first_refusal (fmp_front_rows body at) ≡ None) }
-    ensures stop { IfErr result (λ stop. Scans {X = List ℕ} size (λ body. fmp_front_rows body at) [] stream.old stream.new (Err stop)) }
+    ensures rows { IfOk result (λ front. (body : List ℕ) → Begins front size body
+        → first_refusal (fmp_front_rows body at) ≡ None) }
+    ensures stop { IfErr result (λ stop. Scans {X = List ℕ} size (λ body. fmp_front_rows body at) []
+        stream.old stream.new (Err stop)) }
     ensures later { stream.old.faults ≤ stream.new.faults }
 {
     let mut head = [0u8; FMP_HEADER_BYTES as usize];
@@ -70,7 +74,8 @@ fn next_bytes<S: Source>(
     size: usize,
 ) -> Result<Vec<u8>, ScanStop>
     requires place { stream.old.place + size < 2 ^ 63 }
-    ensures ok { IfOk result (λ bytes. (length bytes.items ≡ size) × Goes bytes.items stream.old stream.new) }
+    ensures ok { IfOk result (λ bytes. (length bytes.items ≡ size)
+        × Goes bytes.items stream.old stream.new) }
     ensures stop { IfErr result (λ stop. IsStop size stream.old stream.new stop) }
     ensures later { stream.old.faults ≤ stream.new.faults }
 {
@@ -93,7 +98,8 @@ fn scan_images<S: Source>(
     requires list { length front.now ≡ list_end front.now }
     requires within { length front.now ≤ size }
     requires places { AreBounds front.now size }
-    ensures scan { Scans size (λ body. all_image_rows body at) front.now stream.old stream.new result }
+    ensures scan { Scans size (λ body. all_image_rows body at) front.now stream.old stream.new
+        result }
     ensures later { stream.old.faults ≤ stream.new.faults }
 {
     let drivers = driver_count(front) as u32;
@@ -107,7 +113,8 @@ fn scan_images<S: Source>(
     Ok(())
 }
 
-/// Scans an image item of `size` bytes that begins `ahead` bytes ahead, and tells how many bytes of it came.
+/// Scans an image item of `size` bytes that begins `ahead` bytes ahead, and tells how many bytes of
+/// it came.
 fn scan_image<S: Source>(
     stream: &mut Stream<S>,
     ahead: u32,

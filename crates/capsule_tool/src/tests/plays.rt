@@ -1,13 +1,19 @@
-//! Plays worked by hand: `k.toml` is a board, `script` a script, and `c1`, `c2` and `c4` are thin deliveries.
+//! Plays worked by hand: `k.toml` is a board, `script` a script, and `c1`, `c2` and `c4` are thin
+//! deliveries.
 
 use super::*;
 use cu_io::{NoFaultInputs, NoFaultSink};
+use reset_play::{Answer, BootEnd};
 
 /// A board of one device, which admits the images of `c1`, `c2` and `c4`.
-const ONE_DEVICE: [&str; 13] = [
+const ONE_DEVICE: [&str; 17] = [
     "bank = 65536",
     "result_max = 15",
-    "digests = [\"ba01d6e096772c57196360a62819b7505492f2c10b28fdb6eba111d257e50d58\", \"c2616a7c3677c9cbb5fa3935d7af65e641aa9c3eb8b81eeb3e12ab8e4ded38ee\", \"8b9791e1fa6675c295e4f792e624dbc914550db4b056c2f91661b19dfcbd2d04\"]",
+    "digests = [",
+    "\"ba01d6e096772c57196360a62819b7505492f2c10b28fdb6eba111d257e50d58\",",
+    "\"c2616a7c3677c9cbb5fa3935d7af65e641aa9c3eb8b81eeb3e12ab8e4ded38ee\",",
+    "\"8b9791e1fa6675c295e4f792e624dbc914550db4b056c2f91661b19dfcbd2d04\",",
+    "]",
     "[[device]]",
     "name = \"sys\"",
     "type = \"aaaaaaaa-0000-0000-0000-000000000001\"",
@@ -95,43 +101,69 @@ fn given(alloc: Global, board: Blob, script: &[&str]) -> Result<NoFaultInputs, N
     Ok(inputs)
 }
 
-/// Plays the board and the script of this name, and compares status and text.
-fn expect_named(
-    rt: &(impl Abort + AllocGlobal),
-    board: Blob,
-    name: &str,
-    script: &[&str],
+/// A play: its board, the name and the lines of its script, and the status and lines that it ends
+/// with.
+#[derive(Clone, Copy)]
+struct Play<'a> {
+    name: &'a str,
+    board: &'a [&'a str],
+    script_name: &'a str,
+    script: &'a [&'a str],
     status: u8,
-    text: &str,
-) -> Result<(), NoMemory> {
+    lines: &'a [&'a str],
+}
+
+/// A play of the script `script` on a board of one device.
+fn on_one_device<'a>(
+    name: &'a str,
+    script: &'a [&'a str],
+    status: u8,
+    lines: &'a [&'a str],
+) -> Play<'a> {
+    Play {
+        name,
+        board: &ONE_DEVICE,
+        script_name: "script",
+        script,
+        status,
+        lines,
+    }
+}
+
+/// A play of the script `bot` under this name on another board.
+fn on_board<'a>(
+    name: &'a str,
+    board: &'a [&'a str],
+    script_name: &'a str,
+    status: u8,
+    lines: &'a [&'a str],
+) -> Play<'a> {
+    Play {
+        name,
+        board,
+        script_name,
+        script: &["bot"],
+        status,
+        lines,
+    }
+}
+
+/// Plays, and compares status and lines.
+fn expect_play(rt: &(impl Abort + AllocGlobal), play: &Play<'_>) -> Result<(), NoMemory> {
     let alloc = rt.alloc();
-    let mut inputs = given(alloc, board, script)?;
+    let mut inputs = given(alloc, text_of(alloc, play.board)?, play.script)?;
     let mut out = NoFaultSink::new(alloc);
-    let words = [
-        Text::from_str(alloc, "play")?,
-        Text::from_str(alloc, "k.toml")?,
-        Text::from_str(alloc, name)?,
-    ];
-    let outcome = run(alloc, &words, &mut inputs, &mut out);
-    assert_eq!(rt; outcome.status, status);
-    assert!(rt; out.as_slice() == text.as_bytes());
+    let words = ["play", "k.toml", play.script_name];
+    let outcome = run_words(alloc, &words, &mut inputs, &mut out)?;
+    let text = text_of(alloc, play.lines)?;
+    let same = outcome.status == play.status && out.as_slice() == text.as_slice();
+    assert!(rt; same, "{}", play.name);
     Ok(())
 }
 
-fn expect_play(
-    rt: &(impl Abort + AllocGlobal),
-    board: &[&str],
-    script: &[&str],
-    status: u8,
-    text: &str,
-) -> Result<(), NoMemory> {
-    let board = text_of(rt.alloc(), board)?;
-    expect_named(rt, board, "script", script, status, text)
-}
-
 #[test]
-fn a_redelivery_is_tried_again(rt: HostRuntime) -> Result<(), Fail> {
-    let script = [
+fn deliveries_are_tried(rt: HostRuntime) -> Result<(), Fail> {
+    let again = [
         "drop a.cap c4",
         "drop A.CAP c4",
         "signal",
@@ -140,97 +172,182 @@ fn a_redelivery_is_tried_again(rt: HostRuntime) -> Result<(), Fail> {
         "signal",
         "boot",
     ];
-    let text =
-        "1 drop ok 1\n2 drop ok 2\n3 signal ok\n  try file:A.CAP 0 0 sys 0 4 Capsule0000\n4 boot ok\n5 drop ok 3\n6 signal ok\n  try file:a.cap 0 0 sys 0 4 Capsule0001\n7 boot ok\ndone 7\n";
-    expect_play(&rt, &ONE_DEVICE, &script, 0, text)?;
+    let tried = [
+        "1 drop ok 1",
+        "2 drop ok 2",
+        "3 signal ok",
+        "  try file:A.CAP 0 0 sys 0 4 Capsule0000",
+        "4 boot ok",
+        "5 drop ok 3",
+        "6 signal ok",
+        "  try file:a.cap 0 0 sys 0 4 Capsule0001",
+        "7 boot ok",
+        "done 7",
+    ];
+    let lower = ["drop a.cap c2", "drop b.cap c1", "signal", "boot"];
+    let refused = [
+        "1 drop ok 1",
+        "2 drop ok 2",
+        "3 signal ok",
+        "  try file:a.cap 0 0 sys 0 2 Capsule0000",
+        "  try file:b.cap 0 0 sys 25 1 Capsule0001",
+        "4 boot ok",
+        "done 4",
+    ];
+    expect_play(
+        &rt,
+        &on_one_device("a redelivery is tried again", &again, 0, &tried),
+    )?;
+    expect_play(
+        &rt,
+        &on_one_device("a lower version is refused", &lower, 0, &refused),
+    )?;
     Ok(())
 }
 
+/// What a play of two drops, a signal and a boot tells of each event.
 #[test]
-fn a_lower_version_is_refused(rt: HostRuntime) -> Result<(), Fail> {
-    let script = ["drop a.cap c2", "drop b.cap c1", "signal", "boot"];
-    let text =
-        "1 drop ok 1\n2 drop ok 2\n3 signal ok\n  try file:a.cap 0 0 sys 0 2 Capsule0000\n  try file:b.cap 0 0 sys 25 1 Capsule0001\n4 boot ok\ndone 4\n";
-    expect_play(&rt, &ONE_DEVICE, &script, 0, text)?;
+fn a_trace_tells_each_event(rt: HostRuntime) -> Result<(), Fail> {
+    let alloc = rt.alloc();
+    let script = ["drop a.cap c4", "drop b.cap c2", "signal", "boot"];
+    let mut inputs = given(alloc, text_of(alloc, &ONE_DEVICE)?, &script)?;
+    let mut out = NoFaultSink::new(alloc);
+    let words = ["play", "k.toml", "script"];
+    let outcome = run_words(alloc, &words, &mut inputs, &mut out)?;
+    match outcome.trace.as_slice() {
+        [first, second, signal, boot] => {
+            assert!(rt; matches!(&first.answer, Answer::Serial(1)));
+            assert!(rt; matches!(&second.answer, Answer::Serial(2)));
+            assert!(rt; matches!(&signal.answer, Answer::Done));
+            assert!(rt; matches!(&boot.answer, Answer::Booted(_, BootEnd::Ok)));
+        }
+        trace => assert!(rt; false, "a trace of {} entries", trace.len()),
+    }
     Ok(())
+}
+
+/// The board of one device with another second line.
+fn with_results(line: &str) -> [&str; 17] {
+    let mut board = ONE_DEVICE;
+    board[1] = line;
+    board
 }
 
 #[test]
 fn faulty_boards_are_told(rt: HostRuntime) -> Result<(), Fail> {
-    let mut board = ONE_DEVICE;
-    board[1] = "result_max = 239";
-    expect_play(&rt, &board, &["bot"], 3, "script 1 BadEvent\n")?;
-    board[1] = "result_max = 240";
-    expect_play(&rt, &board, &["bot"], 3, "board BankTooSmall bank\n")?;
-    board[1] = "result_max = \"15\"";
-    expect_play(&rt, &board, &["bot"], 3, "board WrongKind result_max\n")?;
-    expect_play(&rt, &["bank"], &["bot"], 3, "board BadToml -\n")?;
-    expect_play(&rt, &[], &["bot"], 3, "board MissingKey bank\n")?;
-    Ok(())
-}
-
-#[test]
-fn a_board_is_parsed_before_the_script_is_opened(rt: HostRuntime) -> Result<(), Fail> {
-    let faulty = text_of(rt.alloc(), &["bank"])?;
-    expect_named(&rt, faulty, "none", &[], 3, "board BadToml -\n")?;
-    let board = text_of(rt.alloc(), &ONE_DEVICE)?;
-    expect_named(&rt, board, "none", &[], 4, "unread none\n")?;
+    let most = with_results("result_max = 239");
+    let above = with_results("result_max = 240");
+    let text = with_results("result_max = \"15\"");
+    let kind = ["board WrongKind result_max"];
+    expect_play(
+        &rt,
+        &on_board("most", &most, "script", 3, &["script 1 BadEvent"]),
+    )?;
+    expect_play(
+        &rt,
+        &on_board("above", &above, "script", 3, &["board BankTooSmall bank"]),
+    )?;
+    expect_play(&rt, &on_board("text", &text, "script", 3, &kind))?;
+    expect_play(
+        &rt,
+        &on_board("bare", &["bank"], "script", 3, &["board BadToml -"]),
+    )?;
+    expect_play(
+        &rt,
+        &on_board("empty", &[], "script", 3, &["board MissingKey bank"]),
+    )?;
+    expect_play(
+        &rt,
+        &on_board("before", &["bank"], "none", 3, &["board BadToml -"]),
+    )?;
+    expect_play(
+        &rt,
+        &on_board("behind", &ONE_DEVICE, "none", 4, &["unread none"]),
+    )?;
     Ok(())
 }
 
 #[test]
 fn faulty_scripts_are_told(rt: HostRuntime) -> Result<(), Fail> {
-    expect_play(&rt, &ONE_DEVICE, &["bot"], 3, "script 1 BadEvent\n")?;
     expect_play(
         &rt,
-        &ONE_DEVICE,
-        &["boot", "boot 1"],
-        3,
-        "script 2 BadOperand\n",
+        &on_one_device("event", &["bot"], 3, &["script 1 BadEvent"]),
     )?;
     expect_play(
         &rt,
-        &ONE_DEVICE,
-        &["boot", "", "\t"],
-        3,
-        "script 3 BadText\n",
+        &on_one_device("operand", &["boot", "boot 1"], 3, &["script 2 BadOperand"]),
+    )?;
+    expect_play(
+        &rt,
+        &on_one_device("text", &["boot", "", "\t"], 3, &["script 3 BadText"]),
     )?;
     Ok(())
 }
 
 #[test]
 fn what_is_played_later_is_told(rt: HostRuntime) -> Result<(), Fail> {
-    let board = joined(
-        rt.alloc(),
-        &[
-            text_of(rt.alloc(), &ONE_DEVICE)?.as_slice(),
-            text_of(rt.alloc(), &SECOND_DEVICE)?.as_slice(),
-        ],
-    )?;
-    expect_named(&rt, board, "script", &["boot"], 8, "later k.toml\n")?;
-    expect_play(&rt, &ONE_DEVICE, &["boot", "show"], 8, "later script\n")?;
-    Ok(())
-}
-
-#[test]
-fn the_first_input_that_is_not_thin_is_told(rt: HostRuntime) -> Result<(), Fail> {
-    let script = ["drop a c1", "drop b thick", "drop c none"];
-    expect_play(&rt, &ONE_DEVICE, &script, 8, "later thick\n")?;
+    let mut board = [""; 27];
+    board[..17].copy_from_slice(&ONE_DEVICE);
+    board[17..].copy_from_slice(&SECOND_DEVICE);
+    let thick = ["drop a c1", "drop b thick", "drop c none"];
     let missing = ["drop a c1", "drop b none", "drop c thick"];
-    expect_play(&rt, &ONE_DEVICE, &missing, 4, "unread none\n")?;
+    expect_play(
+        &rt,
+        &on_board("two devices", &board, "script", 8, &["later k.toml"]),
+    )?;
+    expect_play(
+        &rt,
+        &on_one_device("another event", &["boot", "show"], 8, &["later script"]),
+    )?;
+    expect_play(
+        &rt,
+        &on_one_device("the first that is not thin", &thick, 8, &["later thick"]),
+    )?;
+    expect_play(
+        &rt,
+        &on_one_device("the first that is missing", &missing, 4, &["unread none"]),
+    )?;
     Ok(())
 }
 
-/// 65,536 zero bytes, 16 times, and one byte more than a board may have.
-#[test]
-fn a_long_board_is_told(rt: HostRuntime) -> Result<(), Fail> {
-    let piece = [0u8; 65_536];
-    let mut board = Blob::new(rt.alloc());
-    for _ in 0..16 {
-        board.push_slice(&piece)?;
+/// The text of these lines, and a comment that fills it to this many bytes.
+fn filled(alloc: Global, lines: &[&str], bytes: usize) -> Result<Blob, NoMemory> {
+    let mut text = text_of(alloc, lines)?;
+    let piece = [b'#'; 65_536];
+    while text.len() < bytes {
+        let room = (bytes - text.len()).min(65_536);
+        text.push_slice(&piece[..room])?;
     }
-    board.push_slice(&[0])?;
-    expect_named(&rt, board, "script", &[], 7, "long k.toml\n")?;
+    Ok(text)
+}
+
+/// Plays a board and a script of so many bytes, and compares status and line.
+fn expect_sizes(
+    rt: &(impl Abort + AllocGlobal),
+    board: usize,
+    script: usize,
+    status: u8,
+    line: &str,
+) -> Result<(), NoMemory> {
+    let alloc = rt.alloc();
+    let mut inputs = NoFaultInputs::new(alloc);
+    let board = filled(alloc, &ONE_DEVICE, board)?;
+    inputs.add(Text::from_str(alloc, "k.toml")?, board)?;
+    let script = filled(alloc, &[], script)?;
+    inputs.add(Text::from_str(alloc, "script")?, script)?;
+    let mut out = NoFaultSink::new(alloc);
+    let words = ["play", "k.toml", "script"];
+    let outcome = run_words(alloc, &words, &mut inputs, &mut out)?;
+    assert_eq!(rt; outcome.status, status);
+    assert!(rt; out.as_slice() == text_of(alloc, &[line])?.as_slice());
+    Ok(())
+}
+
+#[test]
+fn boards_and_scripts_have_1_048_576_bytes(rt: HostRuntime) -> Result<(), Fail> {
+    expect_sizes(&rt, 1_048_576, 1_048_576, 0, "done 0")?;
+    expect_sizes(&rt, 1_048_577, 0, 7, "long k.toml")?;
+    expect_sizes(&rt, 0, 1_048_577, 7, "long script")?;
     Ok(())
 }
 
@@ -265,11 +382,12 @@ fn largest(alloc: Global) -> Result<Blob, NoMemory> {
 }
 
 /// The inputs of a play: the board, the script, four deliveries of the most bytes, and a small one.
-fn large(alloc: Global, script: &[&str]) -> Result<NoFaultInputs, NoMemory> {
+fn large(alloc: Global) -> Result<NoFaultInputs, NoMemory> {
     let mut inputs = NoFaultInputs::new(alloc);
+    let script = ["drop a a", "drop b b", "drop c c", "drop d d", "drop e e"];
     let board = text_of(alloc, &ONE_DEVICE)?;
     inputs.add(Text::from_str(alloc, "k.toml")?, board)?;
-    inputs.add(Text::from_str(alloc, "script")?, text_of(alloc, script)?)?;
+    inputs.add(Text::from_str(alloc, "script")?, text_of(alloc, &script)?)?;
     inputs.add(Text::from_str(alloc, "a")?, largest(alloc)?)?;
     inputs.add(Text::from_str(alloc, "b")?, largest(alloc)?)?;
     inputs.add(Text::from_str(alloc, "c")?, largest(alloc)?)?;
@@ -278,43 +396,15 @@ fn large(alloc: Global, script: &[&str]) -> Result<NoFaultInputs, NoMemory> {
     Ok(inputs)
 }
 
-fn expect_large(
-    rt: &(impl Abort + AllocGlobal),
-    script: &[&str],
-    status: u8,
-    text: &str,
-) -> Result<(), NoMemory> {
-    let alloc = rt.alloc();
-    let mut inputs = large(alloc, script)?;
-    let mut out = NoFaultSink::new(alloc);
-    let words = [
-        Text::from_str(alloc, "play")?,
-        Text::from_str(alloc, "k.toml")?,
-        Text::from_str(alloc, "script")?,
-    ];
-    let outcome = run(alloc, &words, &mut inputs, &mut out);
-    assert_eq!(rt; outcome.status, status);
-    assert!(rt; out.as_slice() == text.as_bytes());
-    Ok(())
-}
-
+/// The first four have 268,435,456 bytes, which is the limit, so the fifth is the first past it.
 #[test]
 fn the_sum_of_the_inputs_has_a_limit(rt: HostRuntime) -> Result<(), Fail> {
-    let four = [
-        "drop a.cap a",
-        "drop b.cap b",
-        "drop c.cap c",
-        "drop d.cap d",
-    ];
-    let text = "1 drop ok 1\n2 drop ok 2\n3 drop ok 3\n4 drop ok 4\ndone 4\n";
-    expect_large(&rt, &four, 0, text)?;
-    let five = [
-        "drop a.cap a",
-        "drop b.cap b",
-        "drop c.cap c",
-        "drop d.cap d",
-        "drop e.cap e",
-    ];
-    expect_large(&rt, &five, 7, "long e\n")?;
+    let alloc = rt.alloc();
+    let mut inputs = large(alloc)?;
+    let mut out = NoFaultSink::new(alloc);
+    let words = ["play", "k.toml", "script"];
+    let outcome = run_words(alloc, &words, &mut inputs, &mut out)?;
+    assert_eq!(rt; outcome.status, 7);
+    assert!(rt; out.as_slice() == b"long e\n".as_slice());
     Ok(())
 }

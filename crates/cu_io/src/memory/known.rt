@@ -1,5 +1,6 @@
-ghost use Rattle.std.specs.Prelude.{◌≡◌, ◌+◌, ◌-◌, ◌^◌, min, [], ◌∷◌, ◌++◌, OnOk, OnErr, option_map};
+ghost use Rattle.std.specs.Prelude.{◌≡◌, [], OnOk, OnErr, option_map};
 ghost use Rattle.cu_io.specs.Named.{LacksName, bytes_named};
+ghost use Rattle.cu_io.specs.Numbered.{with_named, with_asked, with_taken};
 
 use crate::Loaded;
 use cu_base::{Blob, Names, NoMemory, Text};
@@ -37,21 +38,19 @@ impl Known {
     /// Adds the bytes of a new name.
     pub fn add(&mut self, name: Text, bytes: Blob) -> Result<(), NoMemory>
         requires { LacksName self.old.named name }
-        ensures ok { OnOk result (self.new ≡ record self.old { named = self.old.named ++ (name, bytes) ∷ [] }) }
+        ensures ok { OnOk result (self.new ≡ with_named name bytes self.old) }
         ensures err { OnErr result (self.new ≡ self.old) }
     {
-        self.loaded.push((name, bytes))?;
-        Ok(())
+        self.loaded.push((name, bytes))
     }
 
     /// Keeps that a name was asked for.
     pub fn ask(&mut self, alloc: Global, name: &Text) -> Result<(), NoMemory>
-        ensures ok { OnOk result (self.new ≡ record self.old { asked = self.old.asked ++ name.now ∷ [] }) }
+        ensures ok { OnOk result (self.new ≡ with_asked name.now self.old) }
         ensures err { OnErr result (self.new ≡ self.old) }
     {
         let kept = Text::from_str(alloc, name.as_str())?;
-        self.asked.push(kept)?;
-        Ok(())
+        self.asked.push(kept)
     }
 
     /// The bytes of a name.
@@ -63,7 +62,7 @@ impl Known {
 
     /// Counts bytes that were taken.
     pub fn count(&mut self, taken: u64)
-        ensures { self.new ≡ record self.old { taken = min (self.old.taken + taken) (2 ^ 64 - 1) } }
+        ensures { self.new ≡ with_taken taken self.old }
     {
         self.taken = self.taken.saturating_add(taken);
     }

@@ -1,10 +1,10 @@
 //! The same without faults: their counts are the constant 0.
-ghost use Rattle.std.specs.Prelude.{◌≡◌, ℕ, ◌∷◌, [], ◌++◌, ◌<◌, ◌+◌, ◌-◌, min, length, take, drop, Some, IfOk, IsOk, OnOk, OnErr};
-ghost use Rattle.std.specs.Io.{ReadsAtMost, WritesAtMost};
-ghost use Rattle.std.specs.Io.KnownBytes.{ReadConsumes, WriteAppends};
+ghost use Rattle.std.specs.Prelude.{◌≡◌, [], length, IfOk, IsOk, OnOk, OnErr};
+ghost use Rattle.std.specs.Io.{ReadsAtMost};
 ghost use Rattle.cu_base.specs.Causes.{HasCause, HasCauseOf};
 ghost use Rattle.cu_io.specs.Named.{LacksName};
-ghost use Rattle.cu_io.specs.Streams.{CountsTaken};
+ghost use Rattle.cu_io.specs.Numbered.{calm_source, calm_sink, with_named, GivesMost};
+ghost use Rattle.cu_io.specs.Streams.{Gives, TakesPiece, Writes};
 
 use super::known::Known;
 use super::reader::Reader;
@@ -39,22 +39,17 @@ impl NoFaultSource {
 }
 
 impl Source for NoFaultSource {
-    ghost use Rattle.std.specs.Prelude.{Some};
+    ghost use Rattle.cu_io.specs.Numbered.{calm_source};
 
-    ghost left = { λ s. Some s.left };
-
-    ghost taken = { λ s. s.taken };
-
-    ghost faults = { λ _. 0 };
+    ghost seen = { λ s. calm_source s };
 
     fn read(&mut self, out: &mut [u8]) -> Result<usize, Failed>
         ensures bound { ReadsAtMost result out.new }
-        ensures bytes { ReadConsumes (Some self.old.left) (Some self.new.left) result out.new }
-        ensures taken { CountsTaken self.old.taken self.new.taken result }
+        ensures reads { Gives (calm_source self.old) (calm_source self.new) result out.new }
         ensures cause { HasCause 0 0 result }
 
-        ensures ok { IsOk result }
-        ensures given { IfOk result (λ n. (n ≡ min (length out.old) (length self.old.left)) × (out.new ≡ take n self.old.left ++ drop n out.old)) }
+        ensures only { IsOk result }
+        ensures ok { IfOk result (GivesMost self.old.left out.old out.new) }
     {
         Ok(self.reader.give(out))
     }
@@ -97,19 +92,16 @@ impl NoFaultSink {
 }
 
 impl Sink for NoFaultSink {
-    ghost use Rattle.std.specs.Prelude.{Some};
+    ghost use Rattle.cu_io.specs.Numbered.{calm_sink};
 
-    ghost written = { λ s. Some s };
-
-    ghost faults = { λ _. 0 };
+    ghost seen = { λ s. calm_sink s };
 
     fn write(&mut self, bytes: &[u8]) -> Result<usize, SinkFault>
-        ensures bound { WritesAtMost result bytes.now }
-        ensures some { IfOk result (λ n. 0 < length bytes.now → 0 < n) }
-        ensures bytes { WriteAppends (Some self.old) (Some self.new) result bytes.now }
+        ensures bound { TakesPiece result bytes.now }
+        ensures writes { Writes (calm_sink self.old) (calm_sink self.new) result bytes.now }
         ensures cause { HasCauseOf SinkFault.Failed 0 0 result }
 
-        ensures whole { IfOk result (λ n. n ≡ length bytes.now) }
+        ensures ok { IfOk result (λ n. n ≡ length bytes.now) }
     {
         match self.written.push_slice(bytes) {
             Ok(()) => Ok(bytes.len()),
@@ -118,8 +110,8 @@ impl Sink for NoFaultSink {
     }
 }
 
-/// Inputs in memory that never fail. Contracts see the names and their bytes, the names asked for, and how
-/// many bytes were taken.
+/// Inputs in memory that never fail. Contracts see the names and their bytes, the names asked for,
+/// and how many bytes were taken.
 #[derive(Drop)]
 pub struct NoFaultInputs {
     known: Known,
@@ -146,7 +138,7 @@ impl NoFaultInputs {
     /// Adds an input of a new name.
     pub fn add(&mut self, name: Text, bytes: Blob) -> Result<(), NoMemory>
         requires { LacksName self.old.named name }
-        ensures ok { OnOk result (self.new ≡ record self.old { named = self.old.named ++ (name, bytes) ∷ [] }) }
+        ensures ok { OnOk result (self.new ≡ with_named name bytes self.old) }
         ensures err { OnErr result (self.new ≡ self.old) }
     {
         self.known.add(name, bytes)
@@ -154,17 +146,11 @@ impl NoFaultInputs {
 }
 
 impl Inputs for NoFaultInputs {
-    ghost use Rattle.std.specs.Prelude.{Some};
+    ghost use Rattle.cu_io.specs.Numbered.{calm_of};
 
     type Src = NoFaultSource;
 
-    ghost named = { λ s. Some s.named };
-
-    ghost asked = { λ s. s.asked };
-
-    ghost taken = { λ s. s.taken };
-
-    ghost faults = { λ _. 0 };
+    ghost seen = { λ s. calm_of s };
 
     fn open(&mut self, alloc: Global, name: &Text) -> Result<NoFaultSource, OpenFault> {
         if self.known.ask(alloc, name).is_err() {

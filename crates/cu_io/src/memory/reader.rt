@@ -4,7 +4,8 @@ ghost use Rattle.cu_io.specs.Numbered.{Consumed};
 use cu_base::Blob;
 use std::marker::Model;
 
-/// Bytes in memory that are given from the front. Contracts see what is left and how many were given.
+/// Bytes in memory that are given from the front. Contracts see what is left and how many were
+/// given.
 #[derive(Drop)]
 pub struct Reader {
     bytes: Blob,

@@ -1,17 +1,16 @@
-ghost use Rattle.std.specs.Prelude.{◌≡◌, ◌+◌, ◌↔◌, min, length, take, drop, ◌++◌, Contains, Some, IfOk, IsErr, OnErr};
+ghost use Rattle.std.specs.Prelude.{◌≡◌, IfOk, OnErr};
 ghost use Rattle.std.specs.Io.{ReadsAtMost};
-ghost use Rattle.std.specs.Io.KnownBytes.{ReadConsumes};
 ghost use Rattle.cu_base.specs.Causes.{HasCause};
-ghost use Rattle.cu_io.specs.Streams.{CountsTaken};
-ghost use Rattle.cu_io.specs.Numbered.{one_more};
+ghost use Rattle.cu_io.specs.Streams.{Gives};
+ghost use Rattle.cu_io.specs.Numbered.{unread, source_seen, GivesMost, StrikesReading};
 
 use super::reader::Reader;
 use crate::Source;
 use cu_base::{Blob, Failed, Numbers};
 use std::marker::Model;
 
-/// A source in memory. Contracts see what is left, the numbers of the reads that fail, how many reads
-/// there were, how many bytes they gave and how many failed.
+/// A source in memory. Contracts see what is left, the numbers of the reads that fail, how many
+/// reads there were, how many bytes they gave and how many failed.
 #[derive(Drop)]
 pub struct MemSource {
     reader: Reader,
@@ -25,13 +24,19 @@ impl Model for MemSource {
 
     ghost Value = { Readable };
 
-    ghost view = { λ s. record { left = s.reader.left; fails = s.fails.items; calls = s.calls; taken = s.reader.taken; faults = s.faults } };
+    ghost view = { λ s. record {
+      left = s.reader.left;
+      fails = s.fails.items;
+      calls = s.calls;
+      taken = s.reader.taken;
+      faults = s.faults;
+    } };
 }
 
 impl MemSource {
     /// A source of these bytes. Its reads of the numbers `fails`, from 1, answer Failed.
     pub fn new(bytes: Blob, fails: Numbers) -> MemSource
-        ensures { result ≡ record { left = bytes; fails = fails.items; calls = 0; taken = 0; faults = 0 } }
+        ensures { result ≡ unread bytes fails.items }
     {
         MemSource {
             reader: Reader::new(bytes),
@@ -57,26 +62,19 @@ impl MemSource {
 }
 
 impl Source for MemSource {
-    ghost use Rattle.std.specs.Prelude.{Some};
+    ghost use Rattle.cu_io.specs.Numbered.{source_seen};
 
-    ghost left = { λ s. Some s.left };
-
-    ghost taken = { λ s. s.taken };
-
-    ghost faults = { λ s. s.faults };
+    ghost seen = { λ s. source_seen s };
 
     /// Gives as many bytes as there is room for and as are left.
     fn read(&mut self, out: &mut [u8]) -> Result<usize, Failed>
         ensures bound { ReadsAtMost result out.new }
-        ensures bytes { ReadConsumes (Some self.old.left) (Some self.new.left) result out.new }
-        ensures taken { CountsTaken self.old.taken self.new.taken result }
+        ensures reads { Gives (source_seen self.old) (source_seen self.new) result out.new }
         ensures cause { HasCause self.old.faults self.new.faults result }
 
-        ensures fails { IsErr result ↔ Contains self.old.fails (one_more self.old.calls) }
-        ensures calls { (self.new.calls ≡ one_more self.old.calls) × (self.new.fails ≡ self.old.fails) }
-        ensures given { IfOk result (λ n. (n ≡ min (length out.old) (length self.old.left)) × (out.new ≡ take n self.old.left ++ drop n out.old)) }
-        ensures faults { IfOk result (λ _. self.new.faults ≡ self.old.faults) }
-        ensures err { OnErr result ((self.new.faults ≡ one_more self.old.faults) × (out.new ≡ out.old)) }
+        ensures ok { IfOk result (GivesMost self.old.left out.old out.new) }
+        ensures err { OnErr result (out.new ≡ out.old) }
+        ensures strikes { StrikesReading self.old self.new result }
     {
         self.calls = self.calls.saturating_add(1);
         if self.fails.as_slice().contains(&self.calls) {

@@ -1,32 +1,28 @@
-use Rattle.std.proofs.Common.{rules, refl}
-use Rattle.capsule_tool.specs.declared.input.Reading.TheVariants.{Whole, Long}
-use Rattle.capsule_tool.proofs.JudgeLaws.{begun, may_hold, may_pass, counted}
+use Rattle.std.proofs.Common.{◌≡◌, rules}
+use Rattle.std.specs.Prelude.{Err}
+use Rattle.cu_base.specs.declared.limits.TheConstants.{MAX_CAPSULE_BYTES}
+use Rattle.capsule_tool.specs.Verdicts.{verdict_of}
+use Rattle.capsule_tool.specs.declared.stop.Stop.TheVariants.{Memory}
+use Rattle.capsule_tool.proofs.WorkLaws.{judged_on, read_answered, read_stopped}
 use Rattle.capsule_tool.proofs.input.judge_input.Goals as goal
 
-pub returns-in-Ok-judged-clause-judged : goal.returns-in-Ok-judged-clause-judged
-returns-in-Ok-judged-clause-judged g c =
-    let opened = c.in-Ok.ensures in
-    let start = begun _ _ _ _ c.new-stream.ensures in
-    let judged = c.in-Ok-judged.ensures.judged in (
-      Whole judged.0,
-      record {
-        asked = search rules;
-        later = search rules;
-        gives = (may_hold _ _ _ _ _ _ _ start opened.found judged.1 judged.2, judged.3, counted _ _ _ _ _ _ _ _ _ start opened.unread judged.1 refl c.into_source.ensures.taken (search rules));
-      },
-      judged.4,
-    )
+pub returns-in-Ok-clause-steps : goal.returns-in-Ok-clause-steps
+returns-in-Ok-clause-steps g c = λ next.
+    judged_on c.args.name.now next (g.I.Inputs.seen c.args.inputs.now)
+    (g.I.Inputs.seen c.judge_named.new.inputs) c.in-Ok.verdict c.in-Ok.ensures.reads
 
-pub returns-in-Err-TooLong-clause-judged : goal.returns-in-Err-TooLong-clause-judged
-returns-in-Err-TooLong-clause-judged g c =
-    let opened = c.in-Ok.ensures in
-    let start = begun _ _ _ _ c.new-stream.ensures in
-    let passes = c.judge_stream-judged.ensures.too_long (search rules) in (
-      Long,
-      record {
-        asked = search rules;
-        later = search rules;
-        gives = (may_pass _ _ _ _ _ _ _ start opened.found passes, counted _ _ _ _ _ _ _ _ _ start opened.unread passes.2 passes.1 c.into_source.ensures.taken (search rules));
-      },
-      tt,
-    )
+pub returns-in_ok-read_fault-in-Err-clause-steps :
+    goal.returns-in_ok-read_fault-in-Err-clause-steps
+returns-in_ok-read_fault-in-Err-clause-steps g c = λ next.
+    read_answered MAX_CAPSULE_BYTES c.args.name.now (λ bytes. next (verdict_of bytes))
+    (g.I.Inputs.seen c.args.inputs.now) (g.I.Inputs.seen c.judge_named.new.inputs)
+    c.in-Err.fault c.in_ok-read_fault-in-Err.field-0 c.in-Err.ensures.reads
+    c.in_ok-read_fault-in-Err.ensures
+
+pub returns-in_err-read_fault-in-Err-clause-steps :
+    goal.returns-in_err-read_fault-in-Err-clause-steps
+returns-in_err-read_fault-in-Err-clause-steps g c =
+    let is : c.from_residual.result ≡ Err Memory = search rules in λ next.
+    read_stopped MAX_CAPSULE_BYTES c.args.name.now (λ bytes. next (verdict_of bytes)) next
+    (g.I.Inputs.seen c.args.inputs.now) (g.I.Inputs.seen c.judge_named.new.inputs)
+    c.in-Err.fault c.from_residual.result is c.in-Err.ensures.reads

@@ -1,21 +1,28 @@
 use Rattle.std.proofs.Common.{sym, ◌∙◌, arith}
 use Rattle.std.proofs.lemmas.Result.{err_from_is_err_and}
-use Rattle.capsule_tool.proofs.FileLaws.{file_stopped, file_scanned, file_plain, plain_guid, no_header}
+use Rattle.capsule_tool.proofs.FileLaws.{file_stopped, file_scanned, file_plain, plain_guid}
+use Rattle.capsule_tool.proofs.FileLaws.{no_header}
 use Rattle.capsule_tool.proofs.scan.scan.Goals as goal
 
 pub returns-in_err-fill-clause-scan : goal.returns-in_err-fill-clause-scan
 returns-in_err-fill-clause-scan g c =
     let p = err_from_is_err_and c.from_residual.result c.from_residual.ensures.1 in
-    rw (p.1, p.2) (file_stopped (Unit {0}) _ _ _ _ (omega (arith, c.fill.ensures.long, c.told-head)) (λ is. c.in_err-fill.ensures.ended is) (λ is. c.in_err-fill.ensures.cause.failed is))
+    rw (p.1, p.2) (file_stopped (Unit {0}) _ _ _ _ (omega (arith, c.fill.ensures.size, c.told-head))
+    (λ is. c.in_err-fill.ensures.refused is) (λ is. c.in_err-fill.ensures.cause.failed is))
 
 pub returns-in-Ok-clause-scan : goal.returns-in-Ok-clause-scan
 returns-in-Ok-clause-scan g c =
-    file_scanned _ c.in-Ok.header _ _ _ c.scan_rest.result c.in_ok-fill.ensures.ok (omega (arith, c.fill.ensures.long, c.told-head)) (sym c.in-Ok.ensures.value) (sym c.is_fmp_guid.ensures ∙ c.if-is_fmp_guid.true) c.scan_rest.ensures.scan
+    file_scanned _ c.in-Ok.header _ _ _ c.scan_rest.result c.in_ok-fill.ensures.ok
+    (omega (arith, c.fill.ensures.size, c.told-head)) (sym c.in-Ok.ensures.value)
+    (sym c.is_fmp_guid.ensures ∙ c.if-is_fmp_guid.true) c.scan_rest.ensures.scan
 
 pub returns-in_default-clause-scan : goal.returns-in_default-clause-scan
 returns-in_default-clause-scan g c =
-    file_plain _ _ _ c.in_ok-fill.ensures.ok (omega (arith, c.fill.ensures.long, c.told-head)) (λ is. plain_guid c.fill.new.out c.in-Ok.header (sym c.in-Ok.ensures.value) (sym c.is_fmp_guid.ensures ∙ c.if-is_fmp_guid.false))
+    file_plain _ _ _ c.in_ok-fill.ensures.ok (omega (arith, c.fill.ensures.size, c.told-head))
+    (λ is. plain_guid c.fill.new.out c.in-Ok.header (sym c.in-Ok.ensures.value)
+    (sym c.is_fmp_guid.ensures ∙ c.if-is_fmp_guid.false))
 
 pub returns-in_default-2-clause-scan : goal.returns-in_default-2-clause-scan
 returns-in_default-2-clause-scan g c =
-    file_plain _ _ _ c.in_ok-fill.ensures.ok (omega (arith, c.fill.ensures.long, c.told-head)) (λ is. absurd (no_header _ _ _ (sym c.read.ensures.value ∙ c.in_default.is) is))
+    file_plain _ _ _ c.in_ok-fill.ensures.ok (omega (arith, c.fill.ensures.size, c.told-head))
+    (λ is. absurd (no_header _ _ _ (sym c.read.ensures.value ∙ c.in_default.is) is))

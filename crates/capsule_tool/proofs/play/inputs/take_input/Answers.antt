@@ -1,20 +1,18 @@
+use Rattle.std.proofs.lemmas.Result.{err_from_is_err_and}
 use Rattle.capsule_tool.specs.Plays.{input_next}
-use Rattle.capsule_tool.proofs.WorkLaws.{step_on, stop_here, goes_to, ends_with, lift, on_err}
+use Rattle.capsule_tool.proofs.WorkLaws.{step_on}
 use Rattle.capsule_tool.proofs.play.inputs.take_input.Goals as goal
 
-pub returns-in-Ok-Goes-clause-found : goal.returns-in-Ok-Goes-clause-found
-returns-in-Ok-Goes-clause-found g c = λ rest.
-    let next = input_next c.args.board.now c.args.loaded.now.items c.args.sum.now c.args.name.now rest in
-    let comes = goes_to _ _ _ _ next _ _ c.in-Ok-Goes.field-0-is (c.in-Ok-Goes.ensures.found next) in
-    lift c.keep_input.result _ _ (λ step is. step_on _ _ _ _ _ _ step comes is) (c.keep_input.ensures.next rest)
+pub returns-in_err-bytes-clause-steps : goal.returns-in_err-bytes-clause-steps
+returns-in_err-bytes-clause-steps g c =
+    let p = err_from_is_err_and c.from_residual.result c.from_residual.ensures.1 in λ rest.
+    rw (p.1, p.2)
+    (c.in_err-bytes.ensures.steps
+    (input_next c.args.board.now c.args.loaded.now.items c.args.sum.now c.args.name.now rest))
 
-pub returns-in-Ok-Goes-clause-memory : goal.returns-in-Ok-Goes-clause-memory
-returns-in-Ok-Goes-clause-memory g c = λ rest.
-    let next = input_next c.args.board.now c.args.loaded.now.items c.args.sum.now c.args.name.now rest in
-    let comes = goes_to _ _ _ _ next _ _ c.in-Ok-Goes.field-0-is (c.in-Ok-Goes.ensures.found next) in
-    on_err c.keep_input.result _ (stop_here _ _ _ _ _ comes)
-
-pub returns-in-Ok-Ends-clause-found : goal.returns-in-Ok-Ends-clause-found
-returns-in-Ok-Ends-clause-found g c = λ rest.
-    let next = input_next c.args.board.now c.args.loaded.now.items c.args.sum.now c.args.name.now rest in
-    ends_with _ _ _ _ next _ _ c.in-Ok-Ends.field-0-is (c.in-Ok-Ends.ensures.found next)
+pub returns-clause-steps : goal.returns-clause-steps
+returns-clause-steps g c = λ rest.
+    step_on _ _ _ _ _ c.keep_input.result
+    (c.in_ok-bytes.ensures.steps
+    (input_next c.args.board.now c.args.loaded.now.items c.args.sum.now c.args.name.now rest))
+    (c.keep_input.ensures.steps rest)

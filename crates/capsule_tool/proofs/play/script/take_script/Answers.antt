@@ -1,24 +1,22 @@
-use Rattle.std.proofs.Common.{arith, ◌≤◌, length}
+use Rattle.std.proofs.Common.{ℕ, List}
+use Rattle.std.proofs.lemmas.Result.{err_from_is_err_and}
+use Rattle.cu_base.specs.Kept.{Kept}
 use Rattle.reset_play.specs.ScriptText.{script_said}
-use Rattle.capsule_tool.specs.Plays.{script_next}
-use Rattle.capsule_tool.specs.declared.limits.TheConstants.{MAX_TEXT_BYTES}
-use Rattle.capsule_tool.proofs.WorkLaws.{step_on, stop_here, goes_to, goes_short, ends_with, lift, on_err}
+use Rattle.reference_machine.specs.declared.event.Event.{Event}
+use Rattle.capsule_tool.specs.Plays.{script_next, events_work}
+use Rattle.capsule_tool.proofs.WorkLaws.{step_on}
 use Rattle.capsule_tool.proofs.play.script.take_script.Goals as goal
 
-pub returns-in-Ok-Goes-clause-found : goal.returns-in-Ok-Goes-clause-found
-returns-in-Ok-Goes-clause-found g c = λ board.
-    let comes = goes_to _ _ _ _ (λ bytes. script_next board c.args.name.now (script_said bytes)) _ _ c.in-Ok-Goes.field-0-is (c.in-Ok-Goes.ensures.found (λ bytes. script_next board c.args.name.now (script_said bytes))) in
-    lift c.script_of.result _ _ (λ step is. step_on _ _ _ _ _ _ step comes is) (c.script_of.ensures.next board)
+pub returns-in_err-bytes-clause-steps : goal.returns-in_err-bytes-clause-steps
+returns-in_err-bytes-clause-steps g c =
+    let p = err_from_is_err_and c.from_residual.result c.from_residual.ensures.1 in λ board.
+    rw (p.1, p.2)
+    (c.in_err-bytes.ensures.steps
+    (λ (bytes : List ℕ). script_next board c.args.name.now (script_said bytes)))
 
-pub returns-in-Ok-Goes-clause-memory : goal.returns-in-Ok-Goes-clause-memory
-returns-in-Ok-Goes-clause-memory g c = λ board.
-    let comes = goes_to _ _ _ _ (λ bytes. script_next board c.args.name.now (script_said bytes)) _ _ c.in-Ok-Goes.field-0-is (c.in-Ok-Goes.ensures.found (λ bytes. script_next board c.args.name.now (script_said bytes))) in
-    on_err c.script_of.result _ (stop_here _ _ _ _ _ comes)
-
-pub returns-in-Ok-Ends-clause-found : goal.returns-in-Ok-Ends-clause-found
-returns-in-Ok-Ends-clause-found g c = λ board. ends_with _ _ _ _ (λ bytes. script_next board c.args.name.now (script_said bytes)) _ _ c.in-Ok-Ends.field-0-is (c.in-Ok-Ends.ensures.found (λ bytes. script_next board c.args.name.now (script_said bytes)))
-
-pub script_of-requires : goal.script_of-requires
-script_of-requires g c =
-    let short : length c.in-Ok-Goes.bytes ≤ MAX_TEXT_BYTES = goes_short MAX_TEXT_BYTES _ _ c.in-Ok-Goes.field-0-is c.in-Ok-Goes.ensures.bound in
-    omega (arith, short)
+pub returns-clause-steps : goal.returns-clause-steps
+returns-clause-steps g c = λ board.
+    step_on _ _ _ _ (λ (script : Kept Event). events_work board script.items) c.script_of.result
+    (c.in_ok-bytes.ensures.steps
+    (λ (bytes : List ℕ). script_next board c.args.name.now (script_said bytes)))
+    (c.script_of.ensures.steps board)

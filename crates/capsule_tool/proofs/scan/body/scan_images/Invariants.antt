@@ -1,5 +1,6 @@
 use Rattle.std.proofs.Common.{◌≤◌}
-use Rattle.capsule_grammar.specs.Refusals.{driver_count, start_of}
+use Rattle.capsule_grammar.specs.Refusals.{start_of}
+use Rattle.capsule_grammar.specs.Refusals.{driver_count}
 use Rattle.capsule_tool.proofs.ImageLaws.{HasScanned}
 use Rattle.capsule_tool.proofs.scan.body.scan_images.Given as goal
 
