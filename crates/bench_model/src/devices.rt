@@ -56,7 +56,7 @@ impl Devices {
         requires triple { has_triple device.type_id device.index device.instance self.old.items ≡ false }
         ensures ok { OnOk result (self.new.items ≡ self.old.items ++ device ∷ []) }
         ensures spare { OnOk result (self.old.spare ≤ self.new.spare + 1) }
-        ensures reserved { 0 < self.old.spare → IsOk result }
+        ensures enough { 0 < self.old.spare → IsOk result }
         ensures err { OnErr result (self.new ≡ self.old) }
     {
         let _name = &device.name;
@@ -66,7 +66,7 @@ impl Devices {
 
     /// Makes room for `n` further devices.
     pub fn reserve(&mut self, n: usize) -> Result<(), NoMemory>
-        ensures items { self.new.items ≡ self.old.items }
+        ensures frame { self.new.items ≡ self.old.items }
         ensures ok { OnOk result (n ≤ self.new.spare) }
         ensures spare { self.old.spare ≤ self.new.spare }
         ensures enough { n ≤ self.old.spare → IsOk result }

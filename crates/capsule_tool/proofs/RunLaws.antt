@@ -191,7 +191,8 @@ board_end : (name script : List ℕ) (said : Result BoardValue (BadKind × List 
     → Ends IsEnd (board_next name script said)
 board_end name script (Err fault) = bare_end _ (omega arith) (omega arith) (omega arith)
     (omega arith)
-board_end name script (Ok board) = one_end board name script (has_one_device board)
+board_end name script (Ok board) =
+    one_end board name script (has_one_device board && not board.two_banks)
 
 command_ends : (command : Command) (words : List (List ℕ))
     → Ends IsEnd (work_by (Some command) words)
@@ -281,7 +282,8 @@ one_sum n board name script false = λ is. absurd (omega (arith, is))
 board_sum : (n : ℕ) (name script : List ℕ) (said : Result BoardValue (BadKind × List ℕ))
     → Sums n (board_next name script said)
 board_sum n name script (Err fault) = λ is. absurd (omega (arith, is))
-board_sum n name script (Ok board) = one_sum n board name script (has_one_device board)
+board_sum n name script (Ok board) =
+    one_sum n board name script (has_one_device board && not board.two_banks)
 
 command_sums : (command : Option Command) (words : List (List ℕ)) → Sums 0 (work_by command words)
 command_sums None words = λ is. absurd (omega (arith, is))
