@@ -31,7 +31,8 @@ record IsMore (a b : List Capsule) (r s : List ℕ) : Type 0 where
 front_same : (x y : Capsule) (p q : List ℕ) → IsCapsule x → IsCapsule y
     → spelling x ++ p ≡ spelling y ++ q → (x ≡ y) × (p ≡ q)
 front_same x y p q ix iy e =
-    let same : x ≡ y = sym (spelled_reads_back x p ix) ∙ ap capsule_of e ∙ spelled_reads_back y q iy in
+    let same : x ≡ y = sym (spelled_reads_back x p ix) ∙ ap capsule_of e
+    ∙ spelled_reads_back y q iy in
     let n = length (spelling x) in
     let long : length (spelling y) ≡ n = ap (λ (c : Capsule). length (spelling c)) (sym same) in
     (same, sym (drop_at (spelling x) p n refl) ∙ ap (drop n) e ∙ drop_at (spelling y) q n long)
@@ -51,7 +52,8 @@ more_on x y a b r s same (inr h) = inr (record {
   rest = h.rest;
 })
 
-compare : (a b : List Capsule) (r s : List ℕ) → AllByRecursion IsCapsule a → AllByRecursion IsCapsule b
+compare : (a b : List Capsule) (r s : List ℕ) → AllByRecursion IsCapsule a
+    → AllByRecursion IsCapsule b
     → flat_map spelling a ++ r ≡ flat_map spelling b ++ s → IsMore a b r s ⊎ IsMore b a s r
 compare [] b r s ha hb e = inl (record { more = b; each = hb; list = refl; rest = e })
 compare (x ∷ a) [] r s ha hb e = inr (record { more = x ∷ a; each = ha; list = refl; rest = sym e })
@@ -78,7 +80,8 @@ nothing_more (x ∷ more) s each e =
 
 same_list : (a b : List Capsule) → IsMore a b [] [] → b ≡ a
 same_list a b m =
-    m.list ∙ ap (λ (l : List Capsule). a ++ l) (nothing_more m.more [] m.each m.rest).0 ∙ append-nil a
+    m.list ∙ ap (λ (l : List Capsule). a ++ l) (nothing_more m.more [] m.each m.rest).0
+    ∙ append-nil a
 
 pub one_list : (a b : List Capsule) (bytes : List ℕ) → SpellsAll a bytes → SpellsAll b bytes → a ≡ b
 one_list a b bytes ha hb =
@@ -102,7 +105,8 @@ abbrev IsRefusedBehind : List Capsule → List ℕ → ℕ → Why → Type 0
 IsRefusedBehind cs rest at why = HasOneMore cs rest at why ⊎ HasRefusedRest cs rest at why
 
 -- where fewer than eight stand before it, no capsule begins what is refused
-no_more : (cs : List Capsule) (rest : List ℕ) (at : ℕ) (why : Why) (x : Capsule) (more : List Capsule) (s : List ℕ)
+no_more : (cs : List Capsule) (rest : List ℕ) (at : ℕ) (why : Why) (x : Capsule)
+    (more : List Capsule) (s : List ℕ)
     → IsCapsule x → length cs < 8 → rest ≡ flat_map spelling (x ∷ more) ++ s
     → IsRefusedBehind cs rest at why → ⊥
 no_more cs rest at why x more s is few e (inl h) = absurd (omega (arith, h.count, few))
@@ -118,7 +122,8 @@ no_end cs rest at why e some (inr h) =
     absurd (omega (arith, more, ap length e))
 
 longer : (cs a more : List Capsule) (rest : List ℕ) (at : ℕ) (why : Why) → cs ≡ a ++ more
-    → rest ≡ flat_map spelling more ++ [] → AllByRecursion IsCapsule more → 0 < length cs → length cs ≤ 8
+    → rest ≡ flat_map spelling more ++ [] → AllByRecursion IsCapsule more → 0 < length cs
+    → length cs ≤ 8
     → IsRefusedBehind a rest at why → ⊥
 longer cs a [] rest at why list e each some few refused =
     no_end a rest at why e (omega (arith, some, ap length list, length-append a [])) refused
@@ -133,9 +138,11 @@ never_both cs bytes at why s r =
     elim (compare cs r.capsules [] r.rest s.each r.each whole) [
       | inl m ↦
           let end = nothing_more m.more r.rest m.each m.rest in
-          let some : 0 < length r.capsules = omega (arith, s.some, ap length m.list, length-append cs m.more) in
+          let some : 0 < length r.capsules =
+          omega (arith, s.some, ap length m.list, length-append cs m.more) in
           no_end r.capsules r.rest at why end.1 some r.refused
-      | inr m ↦ longer cs r.capsules m.more r.rest at why m.list m.rest m.each s.some s.few r.refused
+      | inr m ↦ longer cs r.capsules m.more r.rest at why m.list m.rest m.each s.some s.few
+          r.refused
     ]
 
 -- ---- one refusal
@@ -148,20 +155,25 @@ abbrev why_of : Why → Option (ℕ × Why) → Why
 why_of other None = other
 why_of other (Some r) = r.1
 
-at_most : (cs : List Capsule) (rest : List ℕ) (at : ℕ) (why : Why) → IsRefusedBehind cs rest at why → length cs ≤ 8
+at_most : (cs : List Capsule) (rest : List ℕ) (at : ℕ) (why : Why) → IsRefusedBehind cs rest at why
+    → length cs ≤ 8
 at_most cs rest at why (inl h) = omega (arith, h.count)
 at_most cs rest at why (inr h) = omega (arith, h.few)
 
 same_refusal : (a b : List Capsule) (r s : List ℕ) (at to : ℕ) (why cause : Why) → a ≡ b → r ≡ s
     → IsRefusedBehind a r at why → IsRefusedBehind b s to cause → (at ≡ to) × (why ≡ cause)
-same_refusal a b r s at to why cause list rest (inl h) (inl k) =
-    (h.place ∙ ap (λ (l : List Capsule). length (flat_map spelling l)) list ∙ sym k.place, h.cause ∙ sym k.cause)
+same_refusal a b r s at to why cause list rest (inl h) (inl k) = (
+  h.place ∙ ap (λ (l : List Capsule). length (flat_map spelling l)) list ∙ sym k.place,
+  h.cause
+      ∙ sym k.cause,
+)
 same_refusal a b r s at to why cause list rest (inl h) (inr k) =
     absurd (omega (arith, h.count, k.few, ap length list))
 same_refusal a b r s at to why cause list rest (inr h) (inl k) =
     absurd (omega (arith, h.few, k.count, ap length list))
 same_refusal a b r s at to why cause list rest (inr h) (inr k) =
-    let e : Some (h.from, why) ≡ Some (k.from, cause) = sym h.refused ∙ ap refusal rest ∙ k.refused in
+    let e : Some (h.from, why) ≡ Some (k.from, cause) =
+    sym h.refused ∙ ap refusal rest ∙ k.refused in
     let from : h.from ≡ k.from = ap from_of e in
     let size = ap (λ (l : List Capsule). length (flat_map spelling l)) list in
     (omega (arith, h.place, k.place, from, size), ap (why_of why) e)
@@ -181,17 +193,20 @@ pub one_refusal : (bytes : List ℕ) (at to : ℕ) (why cause : Why)
 one_refusal bytes at to why cause r q =
     elim (compare r.capsules q.capsules r.rest q.rest r.each q.each (r.whole ∙ sym q.whole)) [
       | inl m ↦
-          told_same r.capsules q.capsules m.more r.rest q.rest at to why cause m.list m.rest m.each r.refused q.refused
+          told_same r.capsules q.capsules m.more r.rest q.rest at to why cause m.list m.rest m.each
+          r.refused q.refused
       | inr m ↦
           let same =
-          told_same q.capsules r.capsules m.more q.rest r.rest to at cause why m.list m.rest m.each q.refused r.refused in
+          told_same q.capsules r.capsules m.more q.rest r.rest to at cause why m.list m.rest m.each
+          q.refused r.refused in
           (sym same.0, sym same.1)
     ]
 
 -- ---- one or the other
 
 abbrev Decided : List ℕ → Type 0
-Decided bytes = ((cs : List Capsule) × SpellsAll cs bytes) ⊎ ((at : ℕ) × (why : Why) × RefusedAll bytes at why)
+Decided bytes = ((cs : List Capsule) × SpellsAll cs bytes)
+    ⊎ ((at : ℕ) × (why : Why) × RefusedAll bytes at why)
 
 step : (n : ℕ) (cs : List Capsule) (at : ℕ) (bytes : List ℕ) (r : Option (ℕ × Why)) → IsBytes bytes
     → Before cs at bytes → length cs + suc n ≡ 8 → (0 < length cs → at < length bytes)
@@ -200,7 +215,12 @@ step : (n : ℕ) (cs : List Capsule) (at : ℕ) (bytes : List ℕ) (r : Option (
     → (0 < length new → to < length bytes) → Decided bytes)
     → Decided bytes
 step n cs at bytes (Some r) is b count more e next =
-    inr (r.0 + at, r.1, refused_rest cs at r.0 (r.0 + at) r.1 r.1 bytes b (omega (arith, count)) more e refl refl)
+    inr (
+      r.0 + at,
+      r.1,
+      refused_rest cs at r.0 (r.0 + at) r.1 r.1 bytes b
+          (omega (arith, count)) more e refl refl,
+    )
 step n cs at bytes None is b count more e next =
     let rest = drop at bytes in
     let is_rest = IsBytes-drop at bytes is in
@@ -213,8 +233,13 @@ step n cs at bytes None is b count more e next =
     before_grown cs c at size bytes b (read_is_capsule rest is_rest e) long spelled in
     let one : length new ≡ length cs + 1 = length_push cs c in
     elim (cases_eq (at + size) (length bytes)) [
-      | inl end ↦ inl (new, spells_all new (at + size) bytes grown (omega (arith, one)) (omega (arith, one, count)) end)
-      | inr other ↦ next new (at + size) grown (omega (arith, one, count)) (λ some. omega (arith, grown.within, other))
+      | inl end ↦ inl (
+        new,
+        spells_all new (at + size) bytes grown (omega (arith, one))
+            (omega (arith, one, count)) end,
+      )
+      | inr other ↦ next new (at + size) grown (omega (arith, one, count))
+          (λ some. omega (arith, grown.within, other))
     ]
 
 decided : (n : ℕ) (cs : List Capsule) (at : ℕ) (bytes : List ℕ) → IsBytes bytes → Before cs at bytes
@@ -228,4 +253,5 @@ decided (suc n) cs at bytes is b count more =
 
 pub all_or_refused : (bytes : List ℕ) → IsBytes bytes → Decided bytes
 all_or_refused bytes is =
-    decided 8 [] 0 bytes is (record { each = tt; front = refl; within = omega arith }) refl (λ some. absurd (omega (arith, some)))
+    decided 8 [] 0 bytes is (record { each = tt; front = refl; within = omega arith }) refl
+    (λ some. absurd (omega (arith, some)))

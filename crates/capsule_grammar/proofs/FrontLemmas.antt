@@ -18,54 +18,75 @@ use Rattle.capsule_grammar.proofs.Offsets.{bound_is, bound_ends}
 -- ---- which fronts begin which bytes
 
 pub front_within : {front bytes : List ℕ} {size : ℕ} → Begins front size bytes → length front ≤ size
-front_within {front} {bytes} b = omega (arith, ap length b.same, length-take (length front) bytes, b.long)
+front_within {front} {bytes} b =
+    omega (arith, ap length b.same, length-take (length front) bytes, b.long)
 
 pub begins_itself : (bytes : List ℕ) → Begins bytes (length bytes) bytes
 begins_itself bytes = record { same = take_all (length bytes) bytes (omega arith); long = refl }
 
-pub begins_append : (front rest : List ℕ) (size : ℕ) → length front + length rest ≡ size → Begins front size (front ++ rest)
-begins_append front rest size e = record { same = take_at front rest (length front) refl; long = length-append front rest ∙ e }
+pub begins_append : (front rest : List ℕ) (size : ℕ) → length front + length rest ≡ size
+    → Begins front size (front ++ rest)
+begins_append front rest size e =
+    record { same = take_at front rest (length front) refl; long = length-append front rest ∙ e }
 
 -- there are bytes of each front and each length that it fits
-pub some_whole : (front : List ℕ) (size : ℕ) → length front ≤ size → (bytes : List ℕ) × Begins front size bytes
+pub some_whole : (front : List ℕ) (size : ℕ) → length front ≤ size → (bytes : List ℕ)
+    × Begins front size bytes
 some_whole front size within =
-    let rest = bytes_of (size - length front) 0 in
-    (front ++ rest, begins_append front rest size (omega (arith, length-bytes_of (size - length front) 0)))
+    let rest = bytes_of (size - length front) 0 in (
+      front ++ rest,
+      begins_append front rest size
+          (omega (arith, length-bytes_of (size - length front) 0)),
+    )
 
-pub begins_take : {front bytes : List ℕ} {size : ℕ} (n : ℕ) → n ≤ length front → Begins front size bytes → Begins (take n front) size bytes
+pub begins_take : {front bytes : List ℕ} {size : ℕ} (n : ℕ) → n ≤ length front
+    → Begins front size bytes → Begins (take n front) size bytes
 begins_take {front} {bytes} n within b =
     let l : length (take n front) ≡ n = omega (arith, length-take n front) in
-    record { same = rw l (sym (take-take n (length front) bytes within) ∙ ap (take n) b.same); long = b.long }
+    record {
+      same = rw l (sym (take-take n (length front) bytes within) ∙ ap (take n) b.same);
+      long = b.long;
+    }
 
-pub begins_less : {bytes : List ℕ} {size : ℕ} (front more : List ℕ) → Begins (front ++ more) size bytes → Begins front size bytes
+pub begins_less : {bytes : List ℕ} {size : ℕ} (front more : List ℕ)
+    → Begins (front ++ more) size bytes → Begins front size bytes
 begins_less {bytes} {size} front more b =
     let within : length front ≤ length (front ++ more) = omega (arith, length-append front more) in
     let e : take (length front) (front ++ more) ≡ front = take_at front more (length front) refl in
-    record { same = sym (take-take (length front) (length (front ++ more)) bytes within) ∙ ap (take (length front)) b.same ∙ e; long = b.long }
+    record {
+      same = sym (take-take (length front) (length (front ++ more)) bytes within)
+          ∙ ap (take (length front)) b.same ∙ e;
+      long = b.long;
+    }
 
 -- ---- fields within the front
 
-pub field_same : {front bytes : List ℕ} {size : ℕ} (at n : ℕ) → Begins front size bytes → at + n ≤ length front → field bytes at n ≡ field front at n
+pub field_same : {front bytes : List ℕ} {size : ℕ} (at n : ℕ) → Begins front size bytes
+    → at + n ≤ length front → field bytes at n ≡ field front at n
 field_same {front} {bytes} at n b within =
     let m = length front - at in
     let e : at + m ≡ length front = omega arith in
     let cut : drop at (take (at + m) bytes) ≡ take m (drop at bytes) = drop-take at m bytes in
-    let less : take n (take m (drop at bytes)) ≡ take n (drop at bytes) = take-take n m (drop at bytes) (omega arith) in
+    let less : take n (take m (drop at bytes)) ≡ take n (drop at bytes) =
+    take-take n m (drop at bytes) (omega arith) in
     let whole : take (at + m) bytes ≡ front = ap (λ (k : ℕ). take k bytes) e ∙ b.same in
     sym less ∙ ap (take n) (sym cut) ∙ ap (λ (l : List ℕ). take n (drop at l)) whole
 
-pub number_same : {front bytes : List ℕ} {size : ℕ} (at n : ℕ) → Begins front size bytes → at + n ≤ length front → number_at bytes at n ≡ number_at front at n
+pub number_same : {front bytes : List ℕ} {size : ℕ} (at n : ℕ) → Begins front size bytes
+    → at + n ≤ length front → number_at bytes at n ≡ number_at front at n
 number_same at n b within = ap number (field_same at n b within)
 
 -- a front that has the first n bytes, or all, is the whole or has n bytes
-pub whole_or_long : {front bytes : List ℕ} {size : ℕ} (n : ℕ) → Begins front size bytes → min n size ≤ length front → (bytes ≡ front) ⊎ (n ≤ length front)
+pub whole_or_long : {front bytes : List ℕ} {size : ℕ} (n : ℕ) → Begins front size bytes
+    → min n size ≤ length front → (bytes ≡ front) ⊎ (n ≤ length front)
 whole_or_long {front} {bytes} {size} n b there =
     elim (cases_lt size n) [
       | inl short ↦ inl (sym (take_all (length front) bytes (omega (arith, b.long))) ∙ b.same)
       | inr long ↦ inr (omega arith)
     ]
 
-pub number_least : {front bytes : List ℕ} {size : ℕ} (least at n : ℕ) → Begins front size bytes → min least size ≤ length front → at + n ≤ least → number_at bytes at n ≡ number_at front at n
+pub number_least : {front bytes : List ℕ} {size : ℕ} (least at n : ℕ) → Begins front size bytes
+    → min least size ≤ length front → at + n ≤ least → number_at bytes at n ≡ number_at front at n
 number_least least at n b there within =
     elim (whole_or_long least b there) [
       | inl e ↦ ap (λ (l : List ℕ). number_at l at n) e
@@ -73,13 +94,15 @@ number_least least at n b there within =
     ]
 
 -- and it is as short as the whole where the whole is below n bytes
-pub shorter_least : {front bytes : List ℕ} {size : ℕ} (least n : ℕ) → Begins front size bytes → min least size ≤ length front → n ≤ least → ltb (length bytes) n ≡ ltb (length front) n
+pub shorter_least : {front bytes : List ℕ} {size : ℕ} (least n : ℕ) → Begins front size bytes
+    → min least size ≤ length front → n ≤ least → ltb (length bytes) n ≡ ltb (length front) n
 shorter_least {front} {bytes} least n b there low =
     elim (whole_or_long least b there) [
       | inl e ↦ ap (λ (l : List ℕ). ltb (length l) n) e
       | inr long ↦
           let within = front_within b in
-          le-ltb (length bytes) n (omega (arith, within, b.long)) ∙ sym (le-ltb (length front) n (omega arith))
+          le-ltb (length bytes) n (omega (arith, within, b.long))
+          ∙ sym (le-ltb (length front) n (omega arith))
     ]
 
 -- ---- the capsule header
@@ -92,7 +115,9 @@ capsule_rows_by head size =
     ∷ row_at (is_above_limit head || ltb size (image_size head)) 24 BadImageSize
     ∷ []
 
-pub capsule_refusal_same : {head bytes : List ℕ} {size : ℕ} → Begins head size bytes → min 28 size ≤ length head → first_refusal (capsule_rows bytes) ≡ first_refusal (capsule_rows_by head size)
+pub capsule_refusal_same : {head bytes : List ℕ} {size : ℕ} → Begins head size bytes
+    → min 28 size ≤ length head
+    → first_refusal (capsule_rows bytes) ≡ first_refusal (capsule_rows_by head size)
 capsule_refusal_same {head} {bytes} b there =
     let h : header_size bytes ≡ header_size head = number_least 28 16 4 b there (omega arith) in
     let i : image_size bytes ≡ image_size head = number_least 28 24 4 b there (omega arith) in
@@ -104,14 +129,18 @@ capsule_refusal_same {head} {bytes} b there =
 image_header_most : (version : ℕ) → image_header_size version ≤ 48
 image_header_most version = grind (arith, nat_tests)
 
-pub image_version_same : {head image : List ℕ} {size : ℕ} → Begins head size image → min 48 size ≤ length head → image_version image ≡ image_version head
+pub image_version_same : {head image : List ℕ} {size : ℕ} → Begins head size image
+    → min 48 size ≤ length head → image_version image ≡ image_version head
 image_version_same b there = number_least 48 0 4 b there (omega arith)
 
-pub image_parts_size_same : {head image : List ℕ} {size : ℕ} → Begins head size image → min 48 size ≤ length head → image_parts_size image ≡ image_parts_size head
+pub image_parts_size_same : {head image : List ℕ} {size : ℕ} → Begins head size image
+    → min 48 size ≤ length head → image_parts_size image ≡ image_parts_size head
 image_parts_size_same {head} {image} b there =
     let v : image_version image ≡ image_version head = image_version_same b there in
-    let i : number_at image 24 4 ≡ number_at head 24 4 = number_least 48 24 4 b there (omega arith) in
-    let w : number_at image 28 4 ≡ number_at head 28 4 = number_least 48 28 4 b there (omega arith) in
+    let i : number_at image 24 4 ≡ number_at head 24 4 =
+    number_least 48 24 4 b there (omega arith) in
+    let w : number_at image 28 4 ≡ number_at head 28 4 =
+    number_least 48 28 4 b there (omega arith) in
     rw (v, i, w) refl
 
 -- the rows of an image item, by its head and its length
@@ -123,59 +152,84 @@ image_rows_by head size at =
     ∷ row_at (ltb size (image_parts_size head)) (at + 24) ImageOutside
     ∷ []
 
-pub image_refusal_same : {head image : List ℕ} {size : ℕ} (at : ℕ) → Begins head size image → min 48 size ≤ length head → first_refusal (image_rows image at) ≡ first_refusal (image_rows_by head size at)
+pub image_refusal_same : {head image : List ℕ} {size : ℕ} (at : ℕ) → Begins head size image
+    → min 48 size ≤ length head
+    → first_refusal (image_rows image at) ≡ first_refusal (image_rows_by head size at)
 image_refusal_same {head} {image} at b there =
     let v : image_version image ≡ image_version head = number_least 48 0 4 b there (omega arith) in
-    let i : number_at image 24 4 ≡ number_at head 24 4 = number_least 48 24 4 b there (omega arith) in
-    let w : number_at image 28 4 ≡ number_at head 28 4 = number_least 48 28 4 b there (omega arith) in
-    let least : ltb (length image) 32 ≡ ltb (length head) 32 = shorter_least 48 32 b there (omega arith) in
-    let fixed : ltb (length image) (image_header_size (image_version head)) ≡ ltb (length head) (image_header_size (image_version head)) = shorter_least 48 (image_header_size (image_version head)) b there (image_header_most (image_version head)) in
+    let i : number_at image 24 4 ≡ number_at head 24 4 =
+    number_least 48 24 4 b there (omega arith) in
+    let w : number_at image 28 4 ≡ number_at head 28 4 =
+    number_least 48 28 4 b there (omega arith) in
+    let least : ltb (length image) 32 ≡ ltb (length head) 32 =
+    shorter_least 48 32 b there (omega arith) in
+    let fixed : ltb (length image) (image_header_size (image_version head)) ≡ ltb (length head)
+    (image_header_size (image_version head)) =
+    shorter_least 48 (image_header_size (image_version head)) b there
+    (image_header_most (image_version head)) in
     rw (v, i, w, least, fixed, b.long) refl
 
 -- what is read of the header is what is read of the head
-pub image_header_rows_same : {head image : List ℕ} {size : ℕ} → Begins head size image → min 48 size ≤ length head → image_header_rows image ≡ image_header_rows head
+pub image_header_rows_same : {head image : List ℕ} {size : ℕ} → Begins head size image
+    → min 48 size ≤ length head → image_header_rows image ≡ image_header_rows head
 image_header_rows_same {head} {image} b there =
     let v : image_version image ≡ image_version head = number_least 48 0 4 b there (omega arith) in
-    let least : ltb (length image) 32 ≡ ltb (length head) 32 = shorter_least 48 32 b there (omega arith) in
-    let fixed : ltb (length image) (image_header_size (image_version head)) ≡ ltb (length head) (image_header_size (image_version head)) = shorter_least 48 (image_header_size (image_version head)) b there (image_header_most (image_version head)) in
+    let least : ltb (length image) 32 ≡ ltb (length head) 32 =
+    shorter_least 48 32 b there (omega arith) in
+    let fixed : ltb (length image) (image_header_size (image_version head)) ≡ ltb (length head)
+    (image_header_size (image_version head)) =
+    shorter_least 48 (image_header_size (image_version head)) b there
+    (image_header_most (image_version head)) in
     rw (v, least, fixed) refl
 
 -- ---- the numbers of a body
 
-pub driver_count_same : {front body : List ℕ} {size : ℕ} → Begins front size body → min 8 size ≤ length front → driver_count body ≡ driver_count front
+pub driver_count_same : {front body : List ℕ} {size : ℕ} → Begins front size body
+    → min 8 size ≤ length front → driver_count body ≡ driver_count front
 driver_count_same b there = number_least 8 4 2 b there (omega arith)
 
-pub image_count_same : {front body : List ℕ} {size : ℕ} → Begins front size body → min 8 size ≤ length front → image_count body ≡ image_count front
+pub image_count_same : {front body : List ℕ} {size : ℕ} → Begins front size body
+    → min 8 size ≤ length front → image_count body ≡ image_count front
 image_count_same b there = number_least 8 6 2 b there (omega arith)
 
-pub item_count_same : {front body : List ℕ} {size : ℕ} → Begins front size body → min 8 size ≤ length front → item_count body ≡ item_count front
+pub item_count_same : {front body : List ℕ} {size : ℕ} → Begins front size body
+    → min 8 size ≤ length front → item_count body ≡ item_count front
 item_count_same {front} {body} b there =
     let d : driver_count body ≡ driver_count front = driver_count_same b there in
     let i : image_count body ≡ image_count front = image_count_same b there in
     omega (arith, d, i)
 
-pub list_end_same : {front body : List ℕ} {size : ℕ} → Begins front size body → min 8 size ≤ length front → list_end body ≡ list_end front
+pub list_end_same : {front body : List ℕ} {size : ℕ} → Begins front size body
+    → min 8 size ≤ length front → list_end body ≡ list_end front
 list_end_same b there = ap (λ (n : ℕ). 8 + 8 * n) (item_count_same b there)
 
-pub offset_same : {front body : List ℕ} {size : ℕ} (k : ℕ) → Begins front size body → list_end front ≤ length front → k < item_count front → offset body k ≡ offset front k
+pub offset_same : {front body : List ℕ} {size : ℕ} (k : ℕ) → Begins front size body
+    → list_end front ≤ length front → k < item_count front → offset body k ≡ offset front k
 offset_same k b list there = number_same (8 + 8 * k) 8 b (omega arith)
 
-pub start_of_is : (front : List ℕ) (size k : ℕ) → k < item_count front → start_of front size k ≡ offset front k
+pub start_of_is : (front : List ℕ) (size k : ℕ) → k < item_count front
+    → start_of front size k ≡ offset front k
 start_of_is front size k here = cond-true _ _ _ (lt-ltb k (item_count front) here)
 
-pub start_of_ends : (front : List ℕ) (size k : ℕ) → item_count front ≤ k → start_of front size k ≡ size
+pub start_of_ends : (front : List ℕ) (size k : ℕ) → item_count front ≤ k
+    → start_of front size k ≡ size
 start_of_ends front size k end = cond-false _ _ _ (le-ltb k (item_count front) end)
 
-pub bound_same : {front body : List ℕ} {size : ℕ} (k : ℕ) → Begins front size body → list_end front ≤ length front → bound body k ≡ start_of front size k
+pub bound_same : {front body : List ℕ} {size : ℕ} (k : ℕ) → Begins front size body
+    → list_end front ≤ length front → bound body k ≡ start_of front size k
 bound_same {front} {body} {size} k b list =
     let n : item_count body ≡ item_count front = item_count_same b (omega arith) in
     elim (cases_lt k (item_count front)) [
-      | inl here ↦ bound_is body k (omega (arith, n, here)) ∙ offset_same k b list here ∙ sym (start_of_is front size k here)
-      | inr end ↦ bound_ends body k (omega (arith, n, end)) ∙ b.long ∙ sym (start_of_ends front size k end)
+      | inl here ↦ bound_is body k (omega (arith, n, here)) ∙ offset_same k b list here
+          ∙ sym (start_of_is front size k here)
+      | inr end ↦ bound_ends body k (omega (arith, n, end)) ∙ b.long
+          ∙ sym (start_of_ends front size k end)
     ]
 
 -- the bounds of each body that begins so, by its front alone
-pub are_places : (front : List ℕ) (size : ℕ) → length front ≤ size → list_end front ≤ length front → ((body : List ℕ) → Begins front size body → AreBounds body (length body)) → AreBounds front size
+pub are_places : (front : List ℕ) (size : ℕ) → length front ≤ size → list_end front ≤ length front
+    → ((body : List ℕ) → Begins front size body → AreBounds body (length body))
+    → AreBounds front size
 are_places front size within list h =
     let w = some_whole front size within in
     let body = w.0 in

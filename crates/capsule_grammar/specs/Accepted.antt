@@ -11,7 +11,8 @@ use Rattle.capsule_grammar.specs.Refusals.{driver_count, item_count, list_end, s
 pub record AreBounds (front : List ℕ) (size : ℕ) : Type 0 where
   pub behind : (k : ℕ) → k ≤ item_count front → list_end front ≤ start_of front size k
   pub within : (k : ℕ) → k ≤ item_count front → start_of front size k ≤ size
-  pub apart : (k : ℕ) → k + 1 < item_count front → start_of front size k < start_of front size (k + 1)
+  pub apart : (k : ℕ) → k + 1 < item_count front →
+      start_of front size k < start_of front size (k + 1)
   pub rising : (k : ℕ) → k < item_count front → start_of front size k ≤ start_of front size (k + 1)
 
 -- an item that is an image

@@ -24,9 +24,10 @@ pub record HasOneMore (capsules : List Capsule) (rest : List ℕ) (at : ℕ) (wh
   pub place : at ≡ length (flat_map spelling capsules)
   pub cause : why ≡ TooManyCapsules
 
--- Fewer than eight capsules, and what stands behind them is refused. Only where no capsule stands before it can it
--- be empty.
-pub record HasRefusedRest (capsules : List Capsule) (rest : List ℕ) (at : ℕ) (why : Why) : Type 0 where
+-- Fewer than eight capsules, and what stands behind them is refused. Only where no capsule stands
+-- before it can it be empty.
+pub record HasRefusedRest (capsules : List Capsule) (rest : List ℕ) (at : ℕ)
+    (why : Why) : Type 0 where
   pub few : length capsules < 8
   pub more : 0 < length capsules → 0 < length rest
   pub from : ℕ

@@ -18,7 +18,8 @@ is_nonempty bytes = nat_lt 0 (length bytes)
 -- the header tells the sizes of update image and vendor code, and keeps the rules of its version
 abbrev pub image_fits : Image → Bool
 image_fits i =
-    i.header.image_size == length i.image && i.header.vendor_size == length i.vendor && keeps_version_rules i.header
+    i.header.image_size == length i.image && i.header.vendor_size == length i.vendor
+    && keeps_version_rules i.header
 
 -- the counts fit the FMP header, and every driver that is not the last of all items has a byte
 abbrev pub fmp_fits : FmpValue → Bool
@@ -39,8 +40,8 @@ abbrev pub parts_fit : Body → Bool
 parts_fit (Other blob) = true
 parts_fit (Fmp b) = fmp_fits b
 
--- the capsule fits: its body is that of an FMP capsule exactly where its GUID says so, with counts, sizes and headers
--- that a spelling can tell
+-- the capsule fits: its body is that of an FMP capsule exactly where its GUID says so, with counts,
+-- sizes and headers that a spelling can tell
 abbrev pub fits : Capsule → Bool
 fits c = body_fits (is_fmp_guid c.guid.bytes) c.body
 
@@ -53,7 +54,8 @@ abbrev pub HaveWidths : Body → Type 0
 HaveWidths (Other blob) = Unit {0}
 HaveWidths (Fmp b) = AllByRecursion (λ i. IsImageHeader i.header) b.images
 
--- a capsule that fits and is sized, and whose fields have their widths, as those of every value of the program do
+-- a capsule that fits and is sized, and whose fields have their widths, as those of every value of
+-- the program do
 pub record IsCapsule (c : Capsule) : Type 0 where
   pub guid : length c.guid.bytes ≡ 16
   pub flags : c.flags < 2 ^ 32

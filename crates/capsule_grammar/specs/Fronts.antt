@@ -16,7 +16,8 @@ pub record Begins (front : List ℕ) (size : ℕ) (bytes : List ℕ) : Type 0 wh
 pub record IsAccepted (bytes : List ℕ) : Type 0 where
   pub accepted : refusal bytes ≡ None
   pub begins : BeginsWith (capsule_of bytes) (image_size bytes) bytes
-  pub only : (c : Capsule) (n : ℕ) → BeginsWith c n bytes → (c ≡ capsule_of bytes) × (n ≡ image_size bytes)
+  pub only : (c : Capsule) (n : ℕ) → BeginsWith c n bytes →
+      (c ≡ capsule_of bytes) × (n ≡ image_size bytes)
 
 -- the bytes are refused at this place for this cause, and begin with no capsule
 pub record IsRefusedOnce (bytes : List ℕ) : Type 0 where

@@ -16,7 +16,8 @@ abbrev pub image_of : List ℕ → Image
 image_of item = record {
   header = image_header_fields item;
   image = field item (image_header_size (image_version item)) (number_at item 24 4);
-  vendor = field item (image_header_size (image_version item) + number_at item 24 4) (number_at item 28 4);
+  vendor = field item (image_header_size (image_version item) + number_at item 24 4)
+      (number_at item 28 4);
   pad = drop (image_parts_size item) item;
 }
 
@@ -25,12 +26,14 @@ abbrev pub fmp_of : List ℕ → FmpValue
 fmp_of body = record {
   lead = field body (list_end body) (bound body 0 - list_end body);
   drivers = map (item body) (range_with_len 0 (driver_count body));
-  images = map (λ k. image_of (item body k)) (range_with_len (driver_count body) (image_count body));
+  images = map (λ k. image_of (item body k))
+      (range_with_len (driver_count body) (image_count body));
 }
 
 -- the body, by the GUID
 abbrev pub body_read : List ℕ → Body
-body_read bytes = if is_fmp_guid (field bytes 0 16) then Fmp (fmp_of (body_of bytes)) else Other (body_of bytes)
+body_read bytes =
+    if is_fmp_guid (field bytes 0 16) then Fmp (fmp_of (body_of bytes)) else Other (body_of bytes)
 
 -- the capsule at the front of bytes that are not refused
 abbrev pub capsule_of : List ℕ → Capsule

@@ -1,8 +1,9 @@
--- When bytes are refused as a capsule: a table of rows, of which the first that holds decides. Each row is a
--- test on numbers of the bytes, the place that is told, and the cause (UEFI 2.10, 8.5.3 and 23.3.2).
+-- When bytes are refused as a capsule: a table of rows, of which the first that holds decides. Each
+-- row is a test on numbers of the bytes, the place that is told, and the cause (UEFI 2.10, 8.5.3
+-- and 23.3.2).
 --
--- H is HeaderSize and S is CapsuleImageSize. The body is what stands from H to S. In the body of an FMP capsule,
--- offsets count from its start, which is the start of the FMP header.
+-- H is HeaderSize and S is CapsuleImageSize. The body is what stands from H to S. In the body of an
+-- FMP capsule, offsets count from its start, which is the start of the FMP header.
 use Rattle.std.specs.Prelude.{◌≡◌, ℕ, ◌+◌, ◌-◌, ◌*◌, Bool, ◌||◌, ◌&&◌, not, List, [], ◌∷◌, ◌++◌, length, nat_lt, nat_le, ◌==◌, if◌then◌else◌, Option, None, Some, Result, Ok, Err}
 use Rattle.std.specs.List.{flat_map, range_with_len}
 use Rattle.std.specs.Str.{bytes_eq}
@@ -93,7 +94,8 @@ offset_rows body at k =
 
 -- header, update image and vendor code
 abbrev pub image_parts_size : List ℕ → ℕ
-image_parts_size image = image_header_size (image_version image) + number_at image 24 4 + number_at image 28 4
+image_parts_size image =
+    image_header_size (image_version image) + number_at image 24 4 + number_at image 28 4
 
 -- the rows of an image item
 abbrev pub image_rows : List ℕ → ℕ → List (Row (ℕ × Why))
@@ -111,7 +113,8 @@ all_offset_rows body at = flat_map (offset_rows body at) (range_with_len 0 (item
 -- each image, behind the drivers
 abbrev pub all_image_rows : List ℕ → ℕ → List (Row (ℕ × Why))
 all_image_rows body at =
-    flat_map (λ k. image_rows (item body k) (at + bound body k)) (range_with_len (driver_count body) (image_count body))
+    flat_map (λ k. image_rows (item body k) (at + bound body k))
+    (range_with_len (driver_count body) (image_count body))
 
 -- all offsets are tested before the first item
 abbrev pub fmp_rows : List ℕ → ℕ → List (Row (ℕ × Why))
@@ -121,13 +124,15 @@ fmp_rows body at = fmp_front_rows body at ++ (all_offset_rows body at ++ all_ima
 
 -- the rows of what follows the header, by the GUID
 abbrev pub body_rows : List ℕ → List (Row (ℕ × Why))
-body_rows bytes = if is_fmp_guid (field bytes 0 16) then fmp_rows (body_of bytes) (header_size bytes) else []
+body_rows bytes =
+    if is_fmp_guid (field bytes 0 16) then fmp_rows (body_of bytes) (header_size bytes) else []
 
 -- the whole table of some bytes
 abbrev pub rows : List ℕ → List (Row (ℕ × Why))
 rows bytes = capsule_rows bytes ++ body_rows bytes
 
--- the place and the cause of the refusal of these bytes, and None where a capsule stands at their front
+-- the place and the cause of the refusal of these bytes, and None where a capsule stands at their
+-- front
 abbrev pub refusal : List ℕ → Option (ℕ × Why)
 refusal bytes = first_refusal (rows bytes)
 

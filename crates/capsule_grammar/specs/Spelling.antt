@@ -1,5 +1,5 @@
--- The one spelling of a capsule (UEFI 2.10, 8.5.3 and 23.3.2), written by the lengths and bytes of its value. No
--- offset is followed: an offset is what stands before its item, in sum.
+-- The one spelling of a capsule (UEFI 2.10, 8.5.3 and 23.3.2), written by the lengths and bytes of
+-- its value. No offset is followed: an offset is what stands before its item, in sum.
 use Rattle.std.specs.Prelude.{ℕ, ◌+◌, ◌*◌, List, [], ◌∷◌, ◌++◌, length, map}
 use Rattle.std.specs.List.{flat_map, concat}
 use Rattle.cu_base.specs.Fields.{bytes_of}
@@ -26,7 +26,8 @@ abbrev pub offsets : ℕ → List (List ℕ) → List ℕ
 offsets here [] = []
 offsets here (item ∷ items) = here ∷ offsets (here + length item) items
 
--- where the first item begins, behind FMP header, offset list and lead; it counts from the FMP header
+-- where the first item begins, behind FMP header, offset list and lead; it counts from the FMP
+-- header
 abbrev pub first_place : FmpValue → ℕ
 first_place b = 8 + 8 * length (item_bytes b) + length b.lead
 
@@ -37,7 +38,8 @@ offset_list b = flat_map (bytes_of 8) (offsets (first_place b) (item_bytes b))
 -- FMP header, offset list, lead and items
 abbrev pub fmp_bytes : FmpValue → List ℕ
 fmp_bytes b =
-    let header = fmp_header_bytes (record { drivers = length b.drivers; items = length b.images }) in
+    let header = fmp_header_bytes
+    (record { drivers = length b.drivers; items = length b.images }) in
     header ++ (offset_list b ++ (b.lead ++ concat (item_bytes b)))
 
 -- the bytes of a body

@@ -10,9 +10,9 @@ use std::alloc::Global;
 /// The most capsules that stand back to back.
 pub const MAX_CAPSULES: u32 = 8;
 
-/// The capsules that stand back to back, to the end of the bytes: one to eight. Places of a refusal count
-/// from the start of the bytes. A ninth capsule is refused as TooManyCapsules at its place, before it is
-/// read; no bytes are Short at 0.
+/// The capsules that stand back to back, to the end of the bytes: one to eight. Places of a refusal
+/// count from the start of the bytes. A ninth capsule is refused as TooManyCapsules at its place,
+/// before it is read; no bytes are Short at 0.
 pub fn decode_all(alloc: Global, bytes: &[u8]) -> Result<Capsules, DecodeFault>
     ensures ok { IfOk result (λ list. SpellsAll list.items bytes.now) }
     ensures refused { IfErr result (λ e. IsRefusalOfAll e bytes.now) }

@@ -12,8 +12,8 @@ use crate::parts::{
     check_fmp_header, check_image, check_offsets, driver_count, image_count, start_of,
 };
 
-/// The length of the capsule at the front of the bytes, or the first wrong place. It takes no memory
-/// and copies nothing.
+/// The length of the capsule at the front of the bytes, or the first wrong place. It takes no
+/// memory and copies nothing.
 pub fn check(bytes: &[u8]) -> Result<usize, Refusal>
     ensures ok { IfOk result (λ n. n ≡ image_size bytes.now) }
     ensures refused { Answers result (refusal bytes.now) }

@@ -11,9 +11,9 @@ use crate::reading::read;
 use crate::{Capsule, DecodeFault, check};
 use std::alloc::Global;
 
-/// The capsule at the front of the bytes, and its length (UEFI 2.10, 8.5.3 and 23.3.2). The bytes behind
-/// it are not looked at. It is Refused exactly where `check` refuses the bytes, at the same place for
-/// the same cause, and Memory where no room was left.
+/// The capsule at the front of the bytes, and its length (UEFI 2.10, 8.5.3 and 23.3.2). The bytes
+/// behind it are not looked at. It is Refused exactly where `check` refuses the bytes, at the same
+/// place for the same cause, and Memory where no room was left.
 pub fn decode(alloc: Global, bytes: &[u8]) -> Result<(Capsule, usize), DecodeFault>
     ensures ok { IfOk result (λ x. BeginsWith x.0 x.1 bytes.now) }
     ensures only { (c : Capsule) (size : ℕ) → BeginsWith c size bytes.now → IsFound c size result }

@@ -8,10 +8,10 @@ use crate::header::is_fmp_guid;
 use crate::{Body, Capsule, FmpBody, Image};
 use cu_base::Blob;
 
-/// Whether the capsule can be written and read again: the body is that of an FMP capsule exactly where
-/// the GUID is, at most 65,535 drivers and as many images are there, every driver that is not the last
-/// of all items has a byte, and each image header tells the sizes of its blobs and keeps the rules of
-/// its version.
+/// Whether the capsule can be written and read again: the body is that of an FMP capsule exactly
+/// where the GUID is, at most 65,535 drivers and as many images are there, every driver that is not
+/// the last of all items has a byte, and each image header tells the sizes of its blobs and keeps
+/// the rules of its version.
 pub fn fits(capsule: &Capsule) -> bool
     ensures { result ≡ fits capsule.now }
 {

@@ -10,8 +10,8 @@ use crate::{Refusal, Why};
 use cu_base::Guid;
 use fmp_headers::{CapsuleHeader, FMP_CAPSULE_GUID, HeaderFault};
 
-/// The capsule header at the front of bytes, where the capsule that it tells lies within them. `head` is
-/// the first bytes, at least 28 of them or all, and `size` is how many there are.
+/// The capsule header at the front of bytes, where the capsule that it tells lies within them.
+/// `head` is the first bytes, at least 28 of them or all, and `size` is how many there are.
 pub fn check_capsule_header(head: &[u8], size: u64) -> Result<CapsuleHeader, Refusal>
     requires there { min 28 size ≤ length head.now }
     requires within { length head.now ≤ size }

@@ -1,6 +1,6 @@
-//! The laws of the grammar: one capsule has one spelling, no spelling begins another, and each list of
-//! bytes begins with one capsule or is refused at one place for one cause, never both. The same holds of
-//! capsules back to back.
+//! The laws of the grammar: one capsule has one spelling, no spelling begins another, and each list
+//! of bytes begins with one capsule or is refused at one place for one cause, never both. The same
+//! holds of capsules back to back.
 
 ghost use Rattle.std.specs.Prelude.{◌≡◌, ℕ, List, [], ◌++◌, ◌⊎◌};
 ghost use Rattle.cu_base.specs.Bytes.{IsBytes};
@@ -26,8 +26,8 @@ pub fn one_spelling()
         spelling a ++ rest ≡ spelling b → (a ≡ b) × (rest ≡ []) }
 {}
 
-/// Bytes begin with the one capsule that is read from them, or with none and are refused at one place
-/// for one cause, and never both.
+/// Bytes begin with the one capsule that is read from them, or with none and are refused at one
+/// place for one cause, and never both.
 pub fn begins_or_is_refused()
     ensures { (bytes : List ℕ) → IsBytes bytes → IsAccepted bytes ⊎ IsRefusedOnce bytes }
 {}

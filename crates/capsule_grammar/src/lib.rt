@@ -1,12 +1,13 @@
-//! The grammar of a capsule (UEFI 2.10, 8.5.3 and 23.3.2): which bytes are the spelling of which capsule, and
-//! what is wrong with all others.
+//! The grammar of a capsule (UEFI 2.10, 8.5.3 and 23.3.2): which bytes are the spelling of which
+//! capsule, and what is wrong with all others.
 //!
-//! A capsule that fits and is at most 67,108,864 bytes long has one spelling. No spelling begins another. Each
-//! list of bytes begins with a spelling or is refused at one place for one cause, and never both: these are the
-//! laws of `laws`. `check` takes no memory and copies nothing. `decode` gives the capsule in blobs of its own,
-//! `decode_all` one to eight of them back to back, and `encode` writes one. `rebuild` writes the capsule at the
-//! front of bytes again without its lead and its pads. `check_fmp_header`, `check_offsets` and `check_image` judge
-//! a part by its first bytes and its length, for a reader that does not keep the rest.
+//! A capsule that fits and is at most 67,108,864 bytes long has one spelling. No spelling begins
+//! another. Each list of bytes begins with a spelling or is refused at one place for one cause, and
+//! never both: these are the laws of `laws`. `check` takes no memory and copies nothing. `decode`
+//! gives the capsule in blobs of its own, `decode_all` one to eight of them back to back, and
+//! `encode` writes one. `rebuild` writes the capsule at the front of bytes again without its lead
+//! and its pads. `check_fmp_header`, `check_offsets` and `check_image` judge a part by its first
+//! bytes and its length, for a reader that does not keep the rest.
 #![tactic(auto)]
 
 mod accepted;

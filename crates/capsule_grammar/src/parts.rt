@@ -1,5 +1,5 @@
-//! The checks of the parts of a capsule, by their first bytes and their length. They speak of all bytes that
-//! have this front and this length, so who calls them need not have the rest.
+//! The checks of the parts of a capsule, by their first bytes and their length. They speak of all
+//! bytes that have this front and this length, so who calls them need not have the rest.
 
 ghost use Rattle.std.specs.Prelude.{◌≡◌, ℕ, List, ◌+◌, ◌≤◌, ◌<◌, ◌^◌, OnOk, length, min};
 ghost use Rattle.cu_base.specs.Refusals.{first_refusal};
@@ -51,8 +51,8 @@ pub fn list_end(front: &[u8]) -> u32
     FMP_HEADER_BYTES + OFFSET_BYTES * item_count(front)
 }
 
-/// Whether FMP header or offset list of a body is refused. `front` is the first bytes of the body, at
-/// least 8 of them or all, and `size` is the length of the body. Places count from `at`.
+/// Whether FMP header or offset list of a body is refused. `front` is the first bytes of the body,
+/// at least 8 of them or all, and `size` is the length of the body. Places count from `at`.
 pub fn check_fmp_header(front: &[u8], size: u32, at: u32) -> Result<(), Refusal>
     requires there { min 8 size ≤ length front.now }
     requires within { length front.now ≤ size }
@@ -117,8 +117,8 @@ fn check_offset(front: &[u8], size: u32, at: u32, k: u32) -> Result<(), Refusal>
     })
 }
 
-/// Whether an offset of a body is refused. `front` is the first bytes of the body with its offset list, and
-/// `size` is the length of the body. Places count from `at`.
+/// Whether an offset of a body is refused. `front` is the first bytes of the body with its offset
+/// list, and `size` is the length of the body. Places count from `at`.
 pub fn check_offsets(front: &[u8], size: u32, at: u32) -> Result<(), Refusal>
     requires small { at + size < 2 ^ 31 }
     requires list { list_end front.now ≤ length front.now }
@@ -146,8 +146,8 @@ pub fn start_of(front: &[u8], size: usize, k: u32) -> usize
     }
 }
 
-/// Whether an image item is refused. `head` is its first bytes, at least 48 of them or all, and `size` is its
-/// length. Places count from `at`.
+/// Whether an image item is refused. `head` is its first bytes, at least 48 of them or all, and
+/// `size` is its length. Places count from `at`.
 pub fn check_image(head: &[u8], size: u32, at: u32) -> Result<(), Refusal>
     requires there { min 48 size ≤ length head.now }
     requires within { length head.now ≤ size }

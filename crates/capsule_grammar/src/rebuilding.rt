@@ -1,5 +1,5 @@
-//! The capsule at the front of bytes, written again without its lead and its pads. No body is copied but
-//! into the result.
+//! The capsule at the front of bytes, written again without its lead and its pads. No body is
+//! copied but into the result.
 
 ghost use Rattle.std.specs.Prelude.{◌≡◌, ◌↔◌, true, take, ◌+◌, ◌<◌, ◌≤◌, ◌++◌, ◌^◌, None, length, IfOk, IfErr, OnOk};
 ghost use Rattle.std.specs.List.{concat, flat_map};
@@ -23,7 +23,8 @@ use cu_base::{Blob, NoMemory, put_u64};
 use fmp_headers::{CAPSULE_HEADER_BYTES, CapsuleHeader, FmpHeader, image_header_size};
 use std::alloc::Global;
 
-/// The bytes of the capsule at the front with its lead and every pad empty. All else, `ext` too, is kept.
+/// The bytes of the capsule at the front with its lead and every pad empty. All else, `ext` too, is
+/// kept.
 pub fn rebuild(alloc: Global, bytes: &[u8]) -> Result<Blob, DecodeFault>
     ensures ok { IfOk result (λ out. out ≡ spelling (emptied (capsule_of bytes.now))) }
     ensures refused { AnswersBy told_by result (refusal bytes.now) }
@@ -36,8 +37,8 @@ pub fn rebuild(alloc: Global, bytes: &[u8]) -> Result<Blob, DecodeFault>
     }
 }
 
-/// Whether the capsule at the front has neither a lead nor a pad, so that a rebuild leaves its bytes as
-/// they are.
+/// Whether the capsule at the front has neither a lead nor a pad, so that a rebuild leaves its
+/// bytes as they are.
 pub fn is_rebuilt(bytes: &[u8]) -> bool
     requires { refusal bytes.now ≡ None }
     ensures { result ≡ true ↔

@@ -23,7 +23,8 @@ pub enum Why {
     TooManyCapsules,
 }
 
-/// The first wrong place of bytes that are no capsule, counted from their start, and what is wrong there.
+/// The first wrong place of bytes that are no capsule, counted from their start, and what is wrong
+/// there.
 #[derive(Clone, Copy, Debug, PartialEq, Eq, Error)]
 #[error("refused at {at}: {why}")]
 pub struct Refusal {

@@ -5,8 +5,9 @@ ghost use Rattle.capsule_grammar.specs.Fits.{fits, fmp_fits, image_fits, parts_f
 ghost use Rattle.capsule_grammar.specs.Sizes.{IsSizeOf};
 ghost use Rattle.capsule_grammar.specs.Spelling.{body_bytes, fmp_bytes, header_of, image_bytes, item_bytes};
 
+use crate::parts::OFFSET_BYTES;
 use crate::{Body, Capsule, FmpBody, Image};
-use fmp_headers::CAPSULE_HEADER_BYTES;
+use fmp_headers::{CAPSULE_HEADER_BYTES, FMP_HEADER_BYTES};
 
 /// The bytes of an image item.
 fn image_size(image: &Image) -> u64
@@ -49,7 +50,8 @@ fn fmp_size(body: &FmpBody) -> u64
     ensures { IsSizeOf result (fmp_bytes body.now) }
 {
     let items = item_count(body);
-    let mut size = (8 + 8 * items as u64).saturating_add(body.lead.len() as u64);
+    let list_end = FMP_HEADER_BYTES as u64 + OFFSET_BYTES as u64 * items as u64;
+    let mut size = list_end.saturating_add(body.lead.len() as u64);
     for k in 0..items {
         size = size.saturating_add(item_size(body, k));
     }

@@ -347,8 +347,8 @@ fn at_most_eight_capsules_back_to_back(rt: HostRuntime) -> Result<(), Fail> {
     Ok(())
 }
 
-/// Whether the header or the offset list is refused of a body at 28, by a front of it. Without refusal, where its
-/// items begin and the last one ends, if the front has the whole list of two.
+/// Whether the header or the offset list is refused of a body at 28, by a front of it. Without
+/// refusal, where its items begin and the last one ends, if the front has the whole list of two.
 fn judged(front: &[u8], size: u32) -> Result<Option<[usize; 3]>, Refusal>
     requires header { 8 ≤ length front.now }
     requires some { 8 ≤ size }

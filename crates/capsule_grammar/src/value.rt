@@ -19,8 +19,8 @@ pub enum Body {
     Fmp(FmpBody),
 }
 
-/// The body of an FMP capsule (UEFI 2.10, 23.3.2). `lead` is what stands between the offset list and
-/// the first item. The items are the drivers and then the images.
+/// The body of an FMP capsule (UEFI 2.10, 23.3.2). `lead` is what stands between the offset list
+/// and the first item. The items are the drivers and then the images.
 #[derive(Drop)]
 pub struct FmpBody {
     pub lead: Blob,
@@ -33,11 +33,15 @@ impl Model for FmpBody {
 
     ghost Value = { FmpValue };
 
-    ghost view = { λ b. record { lead = b.lead; drivers = b.drivers.items; images = b.images.items } };
+    ghost view = { λ b. record {
+      lead = b.lead;
+      drivers = b.drivers.items;
+      images = b.images.items;
+    } };
 }
 
-/// An image item: its header, the update image, the vendor code, and `pad`, which stands behind them up
-/// to the next item or the end of the capsule.
+/// An image item: its header, the update image, the vendor code, and `pad`, which stands behind
+/// them up to the next item or the end of the capsule.
 #[derive(Drop)]
 pub struct Image {
     pub header: ImageHeader,

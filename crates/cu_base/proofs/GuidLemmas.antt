@@ -32,10 +32,12 @@ abbrev as_guid : List ℕ → Result Guid BaseFault
 as_guid bytes = Ok (record { bytes = bytes })
 
 pub reads_back : (bytes : List ℕ) → length bytes ≡ 16 → IsBytes bytes
-    → ok_or (option_map guid_of (parsed (hyphenated_text lower (fields_reversed bytes)))) BadGuidText
+    → ok_or (option_map guid_of (parsed (hyphenated_text lower (fields_reversed bytes))))
+    BadGuidText
     ≡ Ok (record { bytes = bytes })
 reads_back bytes long is =
-    let each : All (λ b. b < 256) (swap_fields bytes) = All-from_recursion (λ b. b < 256) (swap_fields bytes) (
+    let each : All (λ b. b < 256) (swap_fields bytes) =
+    All-from_recursion (λ b. b < 256) (swap_fields bytes) (
       is 3,
       (
         is 2,
@@ -72,6 +74,7 @@ reads_back bytes long is =
     let shown = fields_reversed bytes in
     let read : Some shown ≡ parsed (hyphenated_text lower shown) =
     let P : List ℕ → Type 0 = λ b. Some b ≡ parsed (hyphenated_text lower b) in
-    subst P (reverses bytes long) (parses_hyphenated lower (swap_fields bytes) (inl refl) refl each) in
+    subst P (reverses bytes long)
+    (parses_hyphenated lower (swap_fields bytes) (inl refl) refl each) in
     ap (λ (o : Option (List ℕ)). ok_or (option_map guid_of o) BadGuidText) (sym read)
     ∙ ap as_guid (reverses_back bytes long)

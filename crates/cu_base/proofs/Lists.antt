@@ -10,7 +10,9 @@ filter_more p [] x =
 filter_more p (y ∷ ys) x =
     let more = filter p (ys ++ x ∷ []) in
     let h : length more ≡ length (filter p ys) + cond (p x) 1 0 = filter_more p ys x in
-    elim (p y) as (λ b. length (cond b (y ∷ more) more) ≡ length (cond b (y ∷ filter p ys) (filter p ys)) + cond (p x) 1 0) [
+    elim (p y) as
+    (λ b. length (cond b (y ∷ more) more) ≡ length (cond b (y ∷ filter p ys) (filter p ys)) + cond
+    (p x) 1 0) [
       | true ↦ omega arith
       | false ↦ h
     ]

@@ -49,7 +49,8 @@ first-none-row true here xs both ys e h = absurd cc
 first-none-row false here xs both ys e h = h e
 
 first-some-row : {R : Type 0} (b : Bool) (here r : R) (xs both : Option R)
-    → cond b (Some here) xs ≡ Some r → (xs ≡ Some r → both ≡ Some r) → cond b (Some here) both ≡ Some r
+    → cond b (Some here) xs ≡ Some r → (xs ≡ Some r → both ≡ Some r)
+    → cond b (Some here) both ≡ Some r
 first-some-row true here r xs both e h = e
 first-some-row false here r xs both e h = h e
 
@@ -70,7 +71,8 @@ pub first-none : {R : Type 0} (xs ys : List (Row R))
     → first_refusal xs ≡ None → first_refusal (xs ++ ys) ≡ first_refusal ys
 first-none [] ys e = refl
 first-none (x ∷ xs) ys e =
-    first-none-row x.holds x.refusal (first_refusal xs) (first_refusal (xs ++ ys)) (first_refusal ys) e
+    first-none-row x.holds x.refusal (first_refusal xs) (first_refusal (xs ++ ys))
+    (first_refusal ys) e
     (first-none xs ys)
 
 pub first-some : {R : Type 0} (xs ys : List (Row R)) (r : R)
@@ -85,7 +87,8 @@ pub first-parts : {R : Type 0} (xs ys : List (Row R))
     → first_refusal (xs ++ ys) ≡ None → (first_refusal xs ≡ None) × (first_refusal ys ≡ None)
 first-parts [] ys e = (refl, e)
 first-parts (x ∷ xs) ys e =
-    first-parts-row x.holds x.refusal (first_refusal xs) (first_refusal ys) (first_refusal (xs ++ ys)) e
+    first-parts-row x.holds x.refusal (first_refusal xs) (first_refusal ys)
+    (first_refusal (xs ++ ys)) e
     (first-parts xs ys)
 
 -- a refusal comes from the first table, or from the second and none from the first
@@ -93,11 +96,13 @@ pub some-parts : {R : Type 0} (xs ys : List (Row R)) (r : R) → first_refusal (
     → (first_refusal xs ≡ Some r) ⊎ ((first_refusal xs ≡ None) × (first_refusal ys ≡ Some r))
 some-parts [] ys r e = inr (refl, e)
 some-parts (x ∷ xs) ys r e =
-    some-parts-row x.holds x.refusal r (first_refusal xs) (first_refusal ys) (first_refusal (xs ++ ys)) e
+    some-parts-row x.holds x.refusal r (first_refusal xs) (first_refusal ys)
+    (first_refusal (xs ++ ys)) e
     (some-parts xs ys r)
 
 -- the answer to a table behind one of which no row holds
-pub answers_then : {X E R : Type 0} (told : E → Option R) (result : Result X E) (xs ys : List (Row R))
+pub answers_then : {X E R : Type 0} (told : E → Option R) (result : Result X E)
+    (xs ys : List (Row R))
     → first_refusal xs ≡ None → AnswersBy told result (first_refusal ys)
     → AnswersBy told result (first_refusal (xs ++ ys))
 answers_then told result xs ys none h = rw (first-none xs ys none) h

@@ -10,8 +10,10 @@ use Rattle.cu_base.specs.declared.time.EfiTime.{EfiTime}
 -- the bytes of a moment, TimeZone in two's complement
 abbrev pub time_bytes : EfiTime → List ℕ
 time_bytes time =
-    bytes_of 2 time.year ++ time.month ∷ time.day ∷ time.hour ∷ time.minute ∷ time.second ∷ time.pad1 ∷ []
-    ++ bytes_of 4 time.nanosecond ++ bytes_of 2 (cast_unsigned w16 time.zone) ++ time.daylight ∷ time.pad2 ∷ []
+    bytes_of 2 time.year
+    ++ time.month ∷ time.day ∷ time.hour ∷ time.minute ∷ time.second ∷ time.pad1 ∷ []
+    ++ bytes_of 4 time.nanosecond ++ bytes_of 2 (cast_unsigned w16 time.zone)
+    ++ time.daylight ∷ time.pad2 ∷ []
 
 -- the moment at the front of bytes
 abbrev pub time_at_front : List ℕ → EfiTime
@@ -51,7 +53,8 @@ is_in_calendar time =
 -- the marks between the numbers of YYYY-MM-DDThh:mm:ss
 abbrev pub has_form : List ℕ → Bool
 has_form text =
-    (length text == 19) && (slice_index text 4 == 45) && (slice_index text 7 == 45) && (slice_index text 10 == 84)
+    (length text == 19) && (slice_index text 4 == 45) && (slice_index text 7 == 45)
+    && (slice_index text 10 == 84)
     && (slice_index text 13 == 58) && (slice_index text 16 == 58)
 
 -- the number that two decimal digits show
@@ -101,7 +104,9 @@ where_in_calendar time = if is_in_calendar time then Some time else None
 -- the moment that a text shows, where it has the form and the moment is of the calendar
 abbrev pub time_of_text : List ℕ → Result EfiTime BaseFault
 time_of_text text =
-    if has_form text then ok_or (option_and_then where_in_calendar (moment_shown text)) BadTime else Err BadTime
+    if has_form text
+    then ok_or (option_and_then where_in_calendar (moment_shown text)) BadTime
+    else Err BadTime
 
 -- two decimal digits, and the text of a moment by them
 abbrev pub digits_of : ℕ → List ℕ
@@ -110,5 +115,6 @@ digits_of n = (48 + n / 10) ∷ (48 + n % 10) ∷ []
 -- the text YYYY-MM-DDThh:mm:ss of a moment
 abbrev pub time_text : EfiTime → List ℕ
 time_text time =
-    digits_of (time.year / 100) ++ digits_of (time.year % 100) ++ 45 ∷ digits_of time.month ++ 45 ∷ digits_of time.day
+    digits_of (time.year / 100) ++ digits_of (time.year % 100)
+    ++ 45 ∷ digits_of time.month ++ 45 ∷ digits_of time.day
     ++ 84 ∷ digits_of time.hour ++ 58 ∷ digits_of time.minute ++ 58 ∷ digits_of time.second

@@ -49,8 +49,8 @@ impl Blob {
         }
     }
 
-    /// Makes room for `n` further bytes at once, so that they are appended with no move of those that
-    /// are here.
+    /// Makes room for `n` further bytes at once, so that they are appended with no move of those
+    /// that are here.
     pub fn reserve(&mut self, n: usize) -> Result<(), NoMemory>
         ensures { self.new ≡ self.old }
     {

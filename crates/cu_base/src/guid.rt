@@ -23,8 +23,8 @@ impl Guid {
         })
     }
 
-    /// The GUID of a text in any of the forms that `uuid` takes: 32 digits, hyphenated, in braces or
-    /// as a URN, in either case. `BadGuidText` for any other text.
+    /// The GUID of a text in any of the forms that `uuid` takes: 32 digits, hyphenated, in braces
+    /// or as a URN, in either case. `BadGuidText` for any other text.
     pub fn from_text(text: &str) -> Result<Guid, BaseFault>
         ensures value { result ≡ guid_of_text text.now }
     {

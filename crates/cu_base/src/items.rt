@@ -16,7 +16,10 @@ impl<T> Model for Items<T> {
 
     ghost Value = { Kept T };
 
-    ghost view = { λ a. record { items = a.inside.items; spare = vec_capacity a.inside - vec_len a.inside } };
+    ghost view = { λ a. record {
+      items = a.inside.items;
+      spare = vec_capacity a.inside - vec_len a.inside;
+    } };
 }
 
 impl<T> Items<T> {
@@ -35,7 +38,7 @@ impl<T> Items<T> {
         T: Drop,
         ensures ok { OnOk result (self.new.items ≡ self.old.items ++ item ∷ []) }
         ensures spare { OnOk result (self.old.spare ≤ self.new.spare + 1) }
-        ensures reserved { 0 < self.old.spare → IsOk result }
+        ensures enough { 0 < self.old.spare → IsOk result }
         ensures err { OnErr result (self.new ≡ self.old) }
     {
         match self.inside.reserve(1) {
@@ -49,7 +52,7 @@ impl<T> Items<T> {
 
     /// Makes room for `n` further items.
     pub fn reserve(&mut self, n: usize) -> Result<(), NoMemory>
-        ensures items { self.new.items ≡ self.old.items }
+        ensures frame { self.new.items ≡ self.old.items }
         ensures ok { OnOk result (n ≤ self.new.spare) }
         ensures spare { self.old.spare ≤ self.new.spare }
         ensures enough { n ≤ self.old.spare → IsOk result }

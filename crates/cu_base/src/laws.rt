@@ -65,7 +65,8 @@ pub fn times_write_back()
         time_bytes (time_at_front bytes) ≡ bytes }
 {}
 
-/// The text of a moment of the calendar, of whole seconds in no stated time zone, shows that moment.
+/// The text of a moment of the calendar, of whole seconds in no stated time zone, shows that
+/// moment.
 pub fn texts_read_back()
     ensures { (year month day hour minute second : ℕ) →
         let time = moment year month day hour minute second in

@@ -1,5 +1,5 @@
-//! Examples from the UEFI specification and RFC 9562, worked by hand, and one call with ample memory of
-//! each function that may want memory.
+//! Examples from the UEFI specification and RFC 9562, worked by hand, and one call with ample
+//! memory of each function that may want memory.
 
 use crate::{
     BaseFault, Blob, EfiStatus, EfiTime, Failed, Guid, NoMemory, Numbers, Text, UNSPECIFIED_ZONE,

@@ -31,9 +31,9 @@ pub struct EfiTime {
 impl EfiTime {
     ghost use Rattle.cu_base.specs.Times.{time_bytes, time_at_front, time_of_text};
 
-    /// The moment that a text of the form `YYYY-MM-DDThh:mm:ss` shows, in no stated time zone: a year
-    /// from 1900 to 9999, a day of the Gregorian calendar, hours to 23, minutes and seconds to 59.
-    /// `BadTime` for any other text.
+    /// The moment that a text of the form `YYYY-MM-DDThh:mm:ss` shows, in no stated time zone: a
+    /// year from 1900 to 9999, a day of the Gregorian calendar, hours to 23, minutes and seconds to
+    /// 59. `BadTime` for any other text.
     pub fn from_text(text: &str) -> Result<EfiTime, BaseFault>
         ensures value { result ≡ time_of_text text.now }
     {
@@ -53,8 +53,8 @@ impl EfiTime {
         }
     }
 
-    /// The 16 bytes: Year, Month, Day, Hour, Minute, Second, Pad1, Nanosecond, TimeZone, Daylight and
-    /// Pad2, all little-endian, TimeZone in two's complement.
+    /// The 16 bytes: Year, Month, Day, Hour, Minute, Second, Pad1, Nanosecond, TimeZone, Daylight
+    /// and Pad2, all little-endian, TimeZone in two's complement.
     pub fn write(&self) -> [u8; 16]
         ensures value { result ≡ time_bytes self.now }
     {
@@ -81,7 +81,8 @@ impl EfiTime {
         ]
     }
 
-    /// The moment of the first 16 bytes, whatever its fields hold. None exactly where there are fewer.
+    /// The moment of the first 16 bytes, whatever its fields hold. None exactly where there are
+    /// fewer.
     pub fn read(bytes: &[u8]) -> Option<EfiTime>
         ensures value { SomeIff result (16 ≤ length bytes.now) (time_at_front bytes.now) }
     {

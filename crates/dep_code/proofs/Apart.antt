@@ -43,22 +43,30 @@ pub and_parts : (a b : Bool) → (a && b) ≡ true → (a ≡ true) × (b ≡ tr
 and_parts true b e = (refl, e)
 and_parts false b e = absurd cc
 
-text_length : (text rest : List ℕ) → list_all is_nonzero text ≡ true → text_size (text ++ 0 ∷ rest) ≡ length text
+text_length : (text rest : List ℕ) → list_all is_nonzero text ≡ true
+    → text_size (text ++ 0 ∷ rest) ≡ length text
 text_length [] rest e = refl
 text_length (b ∷ text) rest e =
     let parts = and_parts (is_nonzero b) (list_all is_nonzero text) e in
     rw (parts.0, text_length text rest parts.1) (omega arith)
 
-pub text_front : (text rest : List ℕ) → IsTrue (list_all is_nonzero text) → text_size ((text ++ 0 ∷ []) ++ rest) ≡ length text
+pub text_front : (text rest : List ℕ) → IsTrue (list_all is_nonzero text)
+    → text_size ((text ++ 0 ∷ []) ++ rest) ≡ length text
 text_front text rest e = ap text_size (append_assoc text (0 ∷ []) rest) ∙ text_length text rest e
 
 four_front : (n : ℕ) (rest : List ℕ) → n < 2 ^ 32 → number (take 4 (bytes_of 4 n ++ rest)) ≡ n
-four_front n rest small = ap number (take_at (bytes_of 4 n) rest 4 (length_bytes 4 n)) ∙ number-bytes_of 4 n small
+four_front n rest small = ap number (take_at (bytes_of 4 n) rest 4 (length_bytes 4 n))
+    ∙ number-bytes_of 4 n small
 
 pub read_back : (op : Op) (rest : List ℕ) → HasForm op → read_front (op_bytes op ++ rest) ≡ op
-read_back (PushGuid guid) rest h = ap (λ (l : List ℕ). PushGuid (record { bytes = l })) (take_at guid.bytes rest 16 h)
+read_back (PushGuid guid) rest h =
+    ap (λ (l : List ℕ). PushGuid (record { bytes = l })) (take_at guid.bytes rest 16 h)
 read_back (PushVersion version) rest h = ap PushVersion (four_front version rest h)
-read_back (VersionStr text) rest h = ap VersionStr (ap (λ (n : ℕ). take n ((text ++ 0 ∷ []) ++ rest)) (text_front text rest h) ∙ ap (take (length text)) (append_assoc text (0 ∷ []) rest) ∙ take_at text (0 ∷ rest) (length text) refl)
+read_back (VersionStr text) rest h =
+    ap VersionStr
+    (ap (λ (n : ℕ). take n ((text ++ 0 ∷ []) ++ rest)) (text_front text rest h)
+    ∙ ap (take (length text)) (append_assoc text (0 ∷ []) rest)
+    ∙ take_at text (0 ∷ rest) (length text) refl)
 read_back And rest h = refl
 read_back Or rest h = refl
 read_back Not rest h = refl
@@ -72,10 +80,12 @@ read_back Lte rest h = refl
 read_back End rest h = refl
 read_back (DeclareLength size) rest h = ap DeclareLength (four_front size rest h)
 
-pub size_back : (op : Op) (rest : List ℕ) → HasForm op → op_size (op_bytes op ++ rest) ≡ length (op_bytes op)
+pub size_back : (op : Op) (rest : List ℕ) → HasForm op
+    → op_size (op_bytes op ++ rest) ≡ length (op_bytes op)
 size_back (PushGuid guid) rest h = sym (ap suc h)
 size_back (PushVersion version) rest h = sym (ap suc (length_bytes 4 version))
-size_back (VersionStr text) rest h = omega (arith, text_front text rest h, length-append text (0 ∷ []))
+size_back (VersionStr text) rest h =
+    omega (arith, text_front text rest h, length-append text (0 ∷ []))
 size_back And rest h = refl
 size_back Or rest h = refl
 size_back Not rest h = refl
@@ -90,11 +100,16 @@ size_back End rest h = refl
 size_back (DeclareLength size) rest h = sym (ap suc (length_bytes 4 size))
 
 -- one operation stands at the front
-pub same_op : (x y : Op) (r s : List ℕ) → HasForm x → HasForm y → op_bytes x ++ r ≡ op_bytes y ++ s → (x ≡ y) × (r ≡ s)
+pub same_op : (x y : Op) (r s : List ℕ) → HasForm x → HasForm y → op_bytes x ++ r ≡ op_bytes y ++ s
+    → (x ≡ y) × (r ≡ s)
 same_op x y r s hx hy e =
     let same : x ≡ y = sym (read_back x r hx) ∙ ap read_front e ∙ read_back y s hy in
-    let long : length (op_bytes x) ≡ length (op_bytes y) = ap (λ (o : Op). length (op_bytes o)) same in
-    (same, sym (drop_at (op_bytes x) r (length (op_bytes x)) refl) ∙ ap (drop (length (op_bytes x))) e ∙ drop_at (op_bytes y) s (length (op_bytes x)) (sym long))
+    let long : length (op_bytes x) ≡ length (op_bytes y) =
+    ap (λ (o : Op). length (op_bytes o)) same in (
+      same,
+      sym (drop_at (op_bytes x) r (length (op_bytes x)) refl)
+          ∙ ap (drop (length (op_bytes x))) e ∙ drop_at (op_bytes y) s (length (op_bytes x)) (sym long),
+    )
 
 -- no row holds at an operation that keeps the rules
 known_code : (op : Op) → nat_lt 14 (opcode op) ≡ false
@@ -119,7 +134,8 @@ late false at h = refl
 late true zero h = refl
 late true (suc at) h = absurd (let no : not true ≡ true = h (omega arith) in cc)
 
-passed_row : {A : Type 0} (b : Bool) (r : A) (rows : Option A) → b ≡ false → rows ≡ None → cond b (Some r) rows ≡ None
+passed_row : {A : Type 0} (b : Bool) (r : A) (rows : Option A) → b ≡ false → rows ≡ None
+    → cond b (Some r) rows ≡ None
 passed_row true r rows e h = absurd cc
 passed_row false r rows e h = h
 
@@ -132,13 +148,17 @@ not_same a b h = grind (arith, nat_tests)
 not_zero : (n : ℕ) → 0 < n → (n == 0) ≡ false
 not_zero n h = grind (arith, nat_tests)
 
-pub keeps_rows : (op : Op) (rest : List ℕ) (at : ℕ) → HasForm op → at + length (op_bytes op) ≤ MAX_SECTION_BYTES → (0 < at → may_follow op ≡ true) → first_refusal (place_rows (op_bytes op ++ rest) at) ≡ None
+pub keeps_rows : (op : Op) (rest : List ℕ) (at : ℕ) → HasForm op
+    → at + length (op_bytes op) ≤ MAX_SECTION_BYTES → (0 < at → may_follow op ≡ true)
+    → first_refusal (place_rows (op_bytes op ++ rest) at) ≡ None
 keeps_rows op rest at form within follow =
     let size = size_back op rest form in
     let long = length-append (op_bytes op) rest in
     passed_row _ _ _ (not_same at MAX_SECTION_BYTES (omega arith))
     (passed_row _ _ _ (not_zero (length (op_bytes op ++ rest)) (omega arith))
     (passed_row _ _ _ (known_code op)
-    (passed_row _ _ _ (not_above (length (op_bytes op ++ rest)) (op_size (op_bytes op ++ rest)) (omega arith))
-    (passed_row _ _ _ (not_above MAX_SECTION_BYTES (at + op_size (op_bytes op ++ rest)) (omega arith))
+    (passed_row _ _ _
+    (not_above (length (op_bytes op ++ rest)) (op_size (op_bytes op ++ rest)) (omega arith))
+    (passed_row _ _ _
+    (not_above MAX_SECTION_BYTES (at + op_size (op_bytes op ++ rest)) (omega arith))
     (passed_row _ _ _ (late (is_declare op) at follow) refl)))))

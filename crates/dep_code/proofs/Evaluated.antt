@@ -31,26 +31,35 @@ entry_value versions (Subtree t) = Truth (value versions t)
 abbrev pub values_of : List (Guid × ℕ) → List Entry → List Value
 values_of versions s = map (entry_value versions) s
 
-joined_value : (versions : List (Guid × ℕ)) (f : Tree → Tree → Tree) (g : Bool → Bool → Bool) → ((t u : Tree) → value versions (f t u) ≡ g (value versions t) (value versions u)) → (s : List Entry) → option_map (values_of versions) (joined f s) ≡ joined_values g (values_of versions s)
+joined_value : (versions : List (Guid × ℕ)) (f : Tree → Tree → Tree) (g : Bool → Bool → Bool)
+    → ((t u : Tree) → value versions (f t u) ≡ g (value versions t) (value versions u))
+    → (s : List Entry) → option_map (values_of versions) (joined f s) ≡ joined_values g
+    (values_of versions s)
 joined_value versions f g h [] = refl
 joined_value versions f g h (Operand c ∷ s) = refl
 joined_value versions f g h (Subtree t ∷ []) = refl
 joined_value versions f g h (Subtree t ∷ Operand c ∷ s) = refl
-joined_value versions f g h (Subtree t ∷ Subtree u ∷ s) = ap (λ (b : Bool). Some (Truth b ∷ values_of versions s)) (h t u)
+joined_value versions f g h (Subtree t ∷ Subtree u ∷ s) =
+    ap (λ (b : Bool). Some (Truth b ∷ values_of versions s)) (h t u)
 
-negated_of : (versions : List (Guid × ℕ)) (s : List Entry) → option_map (values_of versions) (negated s) ≡ negated_value (values_of versions s)
+negated_of : (versions : List (Guid × ℕ)) (s : List Entry)
+    → option_map (values_of versions) (negated s) ≡ negated_value (values_of versions s)
 negated_of versions [] = refl
 negated_of versions (Operand c ∷ s) = refl
 negated_of versions (Subtree t ∷ s) = refl
 
-compared_value : (versions : List (Guid × ℕ)) (kind : CompareKind) (s : List Entry) → option_map (values_of versions) (compared_by kind s) ≡ compared_values kind (values_of versions s)
+compared_value : (versions : List (Guid × ℕ)) (kind : CompareKind) (s : List Entry)
+    → option_map (values_of versions) (compared_by kind s) ≡ compared_values kind
+    (values_of versions s)
 compared_value versions kind [] = refl
 compared_value versions kind (Subtree t ∷ s) = refl
 compared_value versions kind (Operand c ∷ []) = refl
 compared_value versions kind (Operand c ∷ Subtree t ∷ s) = refl
 compared_value versions kind (Operand c ∷ Operand d ∷ s) = refl
 
-pub behind_value : (versions : List (Guid × ℕ)) (op : Op) (s : List Entry) → option_map (values_of versions) (entries_behind op s) ≡ values_behind versions op (values_of versions s)
+pub behind_value : (versions : List (Guid × ℕ)) (op : Op) (s : List Entry)
+    → option_map (values_of versions) (entries_behind op s) ≡ values_behind versions op
+    (values_of versions s)
 behind_value versions (PushGuid guid) s = refl
 behind_value versions (PushVersion version) s = refl
 behind_value versions (VersionStr text) s = refl
@@ -68,41 +77,64 @@ behind_value versions End s = refl
 behind_value versions (DeclareLength size) s = refl
 
 -- the stack behind operations
-pub record AreComputed (versions : List (Guid × ℕ)) (ops : List Op) (stack : List Value) : Type 0 where
+pub record AreComputed (versions : List (Guid × ℕ)) (ops : List Op)
+    (stack : List Value) : Type 0 where
   pub entries : List Entry
   pub are : entries_after [] ops ≡ Some entries
   pub values : values_of versions entries ≡ stack
 
-map_some : (versions : List (Guid × ℕ)) (o : Option (List Entry)) → IsSome o → IsSome (option_map (values_of versions) o)
+map_some : (versions : List (Guid × ℕ)) (o : Option (List Entry)) → IsSome o
+    → IsSome (option_map (values_of versions) o)
 map_some versions None h = absurd cc
 map_some versions (Some s) h = refl
 
-pub computes_on : (versions : List (Guid × ℕ)) (items : List (ℕ × Op)) (k : ℕ) (item : ℕ × Op) (stack : List Value) → ArePlaced items → IsItem items k item → AreComputed versions (take k (ops_of items)) stack → IsSome (values_behind versions item.1 stack)
+pub computes_on : (versions : List (Guid × ℕ)) (items : List (ℕ × Op)) (k : ℕ) (item : ℕ × Op)
+    (stack : List Value) → ArePlaced items → IsItem items k item
+    → AreComputed versions (take k (ops_of items)) stack
+    → IsSome (values_behind versions item.1 stack)
 computes_on versions items k item stack placed h so_far =
-    let stands = map_some versions (entries_behind item.1 so_far.entries) (step_stands items k item so_far.entries placed h so_far.are) in
-    subst (λ (s : List Value). IsSome (values_behind versions item.1 s)) so_far.values (subst IsSome (behind_value versions item.1 so_far.entries) stands)
+    let stands = map_some versions (entries_behind item.1 so_far.entries)
+    (step_stands items k item so_far.entries placed h so_far.are) in
+    subst (λ (s : List Value). IsSome (values_behind versions item.1 s)) so_far.values
+    (subst IsSome (behind_value versions item.1 so_far.entries) stands)
 
-one_more : (versions : List (Guid × ℕ)) (ops : List Op) (o : Option (List Entry)) (new : List Value) → entries_after [] ops ≡ o → IsSome o → option_map (values_of versions) o ≡ Some new → AreComputed versions ops new
+one_more : (versions : List (Guid × ℕ)) (ops : List Op) (o : Option (List Entry)) (new : List Value)
+    → entries_after [] ops ≡ o → IsSome o → option_map (values_of versions) o ≡ Some new
+    → AreComputed versions ops new
 one_more versions ops None new e h v = absurd cc
 one_more versions ops (Some s) new e h v =
     let same : values_of versions s ≡ new = cc in
     record { entries = s; are = e; values = same }
 
-pub computed_more : (versions : List (Guid × ℕ)) (items : List (ℕ × Op)) (k : ℕ) (item : ℕ × Op) (stack new : List Value) → ArePlaced items → IsItem items k item → AreComputed versions (take k (ops_of items)) stack → values_behind versions item.1 stack ≡ Some new → AreComputed versions (take (k + 1) (ops_of items)) new
+pub computed_more : (versions : List (Guid × ℕ)) (items : List (ℕ × Op)) (k : ℕ) (item : ℕ × Op)
+    (stack new : List Value) → ArePlaced items → IsItem items k item
+    → AreComputed versions (take k (ops_of items)) stack
+    → values_behind versions item.1 stack ≡ Some new
+    → AreComputed versions (take (k + 1) (ops_of items)) new
 computed_more versions items k item stack new placed h so_far e =
     one_more versions (take (k + 1) (ops_of items)) (entries_behind item.1 so_far.entries) new
-    (entries_more items k item so_far.entries h so_far.are) (step_stands items k item so_far.entries placed h so_far.are)
-    (behind_value versions item.1 so_far.entries ∙ ap (values_behind versions item.1) so_far.values ∙ e)
+    (entries_more items k item so_far.entries h so_far.are)
+    (step_stands items k item so_far.entries placed h so_far.are)
+    (behind_value versions item.1 so_far.entries ∙ ap (values_behind versions item.1) so_far.values
+    ∙ e)
 
-pub all_computed : (versions : List (Guid × ℕ)) (items : List (ℕ × Op)) (k : ℕ) (stack : List Value) (placed : ArePlaced items) → k ≡ length items → AreComputed versions (take k (ops_of items)) stack → stack ≡ Truth (value versions placed.tree) ∷ []
-all_computed versions items k stack placed all so_far = sym so_far.values ∙ ap (values_of versions) (one_tree_left items k so_far.entries placed all so_far.are)
+pub all_computed : (versions : List (Guid × ℕ)) (items : List (ℕ × Op)) (k : ℕ) (stack : List Value)
+    (placed : ArePlaced items) → k ≡ length items
+    → AreComputed versions (take k (ops_of items)) stack
+    → stack ≡ Truth (value versions placed.tree) ∷ []
+all_computed versions items k stack placed all so_far =
+    sym so_far.values ∙ ap (values_of versions)
+    (one_tree_left items k so_far.entries placed all so_far.are)
 
 -- the GUIDs that the operations name are those of the tree
-knows_first : (versions : List (Guid × ℕ)) (op : Op) (ops : List Op) → list_all (knows versions) ops ≡ list_all (knows versions) (computing ops) → list_all (knows versions) (op ∷ ops) ≡ list_all (knows versions) (computing (op ∷ ops))
+knows_first : (versions : List (Guid × ℕ)) (op : Op) (ops : List Op)
+    → list_all (knows versions) ops ≡ list_all (knows versions) (computing ops)
+    → list_all (knows versions) (op ∷ ops) ≡ list_all (knows versions) (computing (op ∷ ops))
 knows_first versions (VersionStr text) ops h = h
 knows_first versions End ops h = h
 knows_first versions (DeclareLength size) ops h = h
-knows_first versions (PushGuid guid) ops h = ap (λ (b : Bool). knows versions (PushGuid guid) && b) h
+knows_first versions (PushGuid guid) ops h =
+    ap (λ (b : Bool). knows versions (PushGuid guid) && b) h
 knows_first versions (PushVersion version) ops h = h
 knows_first versions And ops h = h
 knows_first versions Or ops h = h
@@ -115,15 +147,18 @@ knows_first versions Gte ops h = h
 knows_first versions Lt ops h = h
 knows_first versions Lte ops h = h
 
-knows_computing : (versions : List (Guid × ℕ)) (ops : List Op) → list_all (knows versions) ops ≡ list_all (knows versions) (computing ops)
+knows_computing : (versions : List (Guid × ℕ)) (ops : List Op)
+    → list_all (knows versions) ops ≡ list_all (knows versions) (computing ops)
 knows_computing versions [] = refl
 knows_computing versions (op ∷ ops) = knows_first versions op ops (knows_computing versions ops)
 
-knows_push : (versions : List (Guid × ℕ)) (c : Compared) → knows versions (push c) ≡ is_known versions c
+knows_push : (versions : List (Guid × ℕ)) (c : Compared)
+    → knows versions (push c) ≡ is_known versions c
 knows_push versions (compared.Version version) = refl
 knows_push versions (compared.Guid guid) = refl
 
-knows_comparison : (versions : List (Guid × ℕ)) (kind : CompareKind) → knows versions (comparison kind) ≡ true
+knows_comparison : (versions : List (Guid × ℕ)) (kind : CompareKind)
+    → knows versions (comparison kind) ≡ true
 knows_comparison versions kinds.Eq = refl
 knows_comparison versions kinds.Gt = refl
 knows_comparison versions kinds.Gte = refl
@@ -146,29 +181,51 @@ alone : (a : Bool) → (a && true) ≡ a
 alone true = refl
 alone false = refl
 
-both_known : (versions : List (Guid × ℕ)) (a b : List Op) (op : Op) (x y : Bool) → knows versions op ≡ true → list_all (knows versions) a ≡ x → list_all (knows versions) b ≡ y → list_all (knows versions) (a ++ b ++ op ∷ []) ≡ (y && x)
+both_known : (versions : List (Guid × ℕ)) (a b : List Op) (op : Op) (x y : Bool)
+    → knows versions op ≡ true → list_all (knows versions) a ≡ x → list_all (knows versions) b ≡ y
+    → list_all (knows versions) (a ++ b ++ op ∷ []) ≡ (y && x)
 both_known versions a b op x y e ha hb =
-    list_all-append (knows versions) (a ++ b) (op ∷ []) ∙ ap (λ (z : Bool). z && (knows versions op && true)) (list_all-append (knows versions) a b)
+    list_all-append (knows versions) (a ++ b) (op ∷ [])
+    ∙ ap (λ (z : Bool). z && (knows versions op && true)) (list_all-append (knows versions) a b)
     ∙ rw (ha, hb, e) (exchanged x y)
 
-knows_post : (versions : List (Guid × ℕ)) (t : Tree) → list_all (knows versions) (post t) ≡ knows_all versions t
+knows_post : (versions : List (Guid × ℕ)) (t : Tree)
+    → list_all (knows versions) (post t) ≡ knows_all versions t
 knows_post versions tree.True = refl
 knows_post versions tree.False = refl
-knows_post versions (tree.Not t) = list_all-append (knows versions) (post t) (Not ∷ []) ∙ alone (list_all (knows versions) (post t)) ∙ knows_post versions t
-knows_post versions (tree.And left right) = both_known versions (post right) (post left) And (knows_all versions right) (knows_all versions left) refl (knows_post versions right) (knows_post versions left)
-knows_post versions (tree.Or left right) = both_known versions (post right) (post left) Or (knows_all versions right) (knows_all versions left) refl (knows_post versions right) (knows_post versions left)
-knows_post versions (tree.Compare kind left right) = three (knows versions (push right)) (knows versions (push left)) (knows versions (comparison kind)) (knows_comparison versions kind) ∙ rw (knows_push versions left, knows_push versions right) refl
+knows_post versions (tree.Not t) =
+    list_all-append (knows versions) (post t) (Not ∷ [])
+    ∙ alone (list_all (knows versions) (post t)) ∙ knows_post versions t
+knows_post versions (tree.And left right) =
+    both_known versions (post right) (post left) And (knows_all versions right)
+    (knows_all versions left) refl (knows_post versions right) (knows_post versions left)
+knows_post versions (tree.Or left right) =
+    both_known versions (post right) (post left) Or (knows_all versions right)
+    (knows_all versions left) refl (knows_post versions right) (knows_post versions left)
+knows_post versions (tree.Compare kind left right) =
+    three (knows versions (push right)) (knows versions (push left))
+    (knows versions (comparison kind)) (knows_comparison versions kind)
+    ∙ rw (knows_push versions left, knows_push versions right) refl
 
-pub known_is : (versions : List (Guid × ℕ)) (items : List (ℕ × Op)) (t : Tree) → IsTreeOf t (ops_of items) → list_all (λ item. knows versions item.1) items ≡ knows_all versions t
-known_is versions items t e = sym (list_all-map (knows versions) (λ (item : ℕ × Op). item.1) items) ∙ knows_computing versions (ops_of items) ∙ ap (list_all (knows versions)) e ∙ knows_post versions t
+pub known_is : (versions : List (Guid × ℕ)) (items : List (ℕ × Op)) (t : Tree)
+    → IsTreeOf t (ops_of items)
+    → list_all (λ item. knows versions item.1) items ≡ knows_all versions t
+known_is versions items t e = sym (list_all-map (knows versions) (λ (item : ℕ × Op). item.1) items)
+    ∙ knows_computing versions (ops_of items) ∙ ap (list_all (knows versions)) e
+    ∙ knows_post versions t
 
 -- the answers
-pub unknown : (versions : List (Guid × ℕ)) (items : List (ℕ × Op)) → ArePlaced items → list_all (λ item. knows versions item.1) items ≡ false → IsAnswerOf (ops_of items) versions false
+pub unknown : (versions : List (Guid × ℕ)) (items : List (ℕ × Op)) → ArePlaced items
+    → list_all (λ item. knows versions item.1) items ≡ false
+    → IsAnswerOf (ops_of items) versions false
 unknown versions items placed e =
-    let missing : knows_all versions placed.tree ≡ false = sym (known_is versions items placed.tree placed.is_section.reads) ∙ e in
+    let missing : knows_all versions placed.tree ≡ false =
+    sym (known_is versions items placed.tree placed.is_section.reads) ∙ e in
     record { tree = placed.tree; is_tree = placed.is_section.reads; value = rw missing refl }
 
-pub answered : (versions : List (Guid × ℕ)) (items : List (ℕ × Op)) (t : Tree) (answer : Bool) → list_all (λ item. knows versions item.1) items ≡ true → IsTreeOf t (ops_of items) → answer ≡ value versions t → IsAnswerOf (ops_of items) versions answer
+pub answered : (versions : List (Guid × ℕ)) (items : List (ℕ × Op)) (t : Tree) (answer : Bool)
+    → list_all (λ item. knows versions item.1) items ≡ true → IsTreeOf t (ops_of items)
+    → answer ≡ value versions t → IsAnswerOf (ops_of items) versions answer
 answered versions items t answer e is v =
     let all : knows_all versions t ≡ true = sym (known_is versions items t is) ∙ e in
     record { tree = t; is_tree = is; value = rw all v }
@@ -176,10 +233,13 @@ answered versions items t answer e is v =
 -- an answer that is the value of a tree of the operations
 pub answer_is : (versions : List (Guid × ℕ)) (items : List (ℕ × Op)) (result : Result Bool NoMemory)
     → list_all (λ item. knows versions item.1) items ≡ true
-    → IfOk result (λ truth. (tree : Tree) × IsTreeOf tree (ops_of items) × (truth ≡ value versions tree))
+    → IfOk result
+    (λ truth. (tree : Tree) × IsTreeOf tree (ops_of items) × (truth ≡ value versions tree))
     → IfOk result (λ answer. IsAnswerOf (ops_of items) versions answer)
-answer_is versions items (Ok truth) e found = answered versions items found.0 truth e found.1 found.2
+answer_is versions items (Ok truth) e found =
+    answered versions items found.0 truth e found.1 found.2
 answer_is versions items (Err none) e found = tt
 
-pub top_is : (stack below : List Value) (a b : Bool) → stack ≡ Truth a ∷ [] → stack ≡ Truth b ∷ below → b ≡ a
+pub top_is : (stack below : List Value) (a b : Bool) → stack ≡ Truth a ∷ [] → stack ≡ Truth b
+    ∷ below → b ≡ a
 top_is stack below a b one top = cc

@@ -1,4 +1,5 @@
--- What the operations of a section compute over a list of versions: a stack of numbers and truth values.
+-- What the operations of a section compute over a list of versions: a stack of numbers and truth
+-- values.
 use Rattle.std.specs.Prelude.{ℕ, Bool, true, false, not, ◌&&◌, ◌||◌, List, [], ◌∷◌, Option, Some, None, is_some}
 use Rattle.cu_base.specs.declared.guid.Guid.{Guid}
 use Rattle.dep_code.specs.declared.evaluation.Value.{Value}
@@ -52,7 +53,8 @@ compared_values kind (Number n ∷ Number m ∷ s) = Some (Truth (holds kind n m
 
 -- the stack behind an operation, and None where its operands are missing or of the other type
 abbrev pub values_behind : List (Guid × ℕ) → Op → List Value → Option (List Value)
-values_behind versions (PushGuid guid) s = Some (Number (number_of versions (compared.Guid guid)) ∷ s)
+values_behind versions (PushGuid guid) s =
+    Some (Number (number_of versions (compared.Guid guid)) ∷ s)
 values_behind versions (PushVersion version) s = Some (Number version ∷ s)
 values_behind versions (VersionStr text) s = Some s
 values_behind versions And s = joined_values ◌&&◌ s

@@ -1,4 +1,5 @@
--- The operations of a dependency section and their bytes (UEFI 2.10, 23.2). Operation 0E is this tool's own.
+-- The operations of a dependency section and their bytes (UEFI 2.10, 23.2). Operation 0E is this
+-- tool's own.
 use Rattle.std.specs.Prelude.{◌≡◌, ℕ, ◌^◌, ◌<◌, Bool, not, ◌&&◌, IsTrue, List, [], ◌∷◌, ◌++◌, length, ◌==◌}
 use Rattle.std.specs.List.{flat_map, filter, list_all}
 use Rattle.cu_base.specs.Fields.{bytes_of}

@@ -6,7 +6,8 @@ use Rattle.dep_code.specs.declared.op.Op.TheVariants.{End}
 use Rattle.dep_code.specs.Operations.{section_bytes}
 use Rattle.dep_code.specs.Sections.{AreBeforeEnd, ops_of, placed}
 
--- the first bytes, this many of them, are these operations with their places, of which END is the last
+-- the first bytes, this many of them, are these operations with their places, of which END is the
+-- last
 pub record EndsAt (bytes : List ℕ) (items : List (ℕ × Op)) (size : ℕ) : Type 0 where
   pub before : List Op
   pub kept : AreBeforeEnd before

@@ -1,5 +1,5 @@
--- When bytes are refused as a dependency section: at the first place where an operation breaks a rule, and where
--- none does, by what the operations up to END say together (UEFI 2.10, 23.2).
+-- When bytes are refused as a dependency section: at the first place where an operation breaks a
+-- rule, and where none does, by what the operations up to END say together (UEFI 2.10, 23.2).
 use Rattle.std.specs.Prelude.{◌≡◌, ℕ, ◌+◌, ◌-◌, ◌≤◌, ◌⊎◌, ◌||◌, ◌&&◌, not, List, [], ◌∷◌, ◌++◌, length, take, drop, map, slice_index, nat_lt, ◌==◌, if◌then◌else◌, Option, None, Some, Result, Ok, Err}
 use Rattle.std.specs.List.{range_with_len, prefix_len}
 use Rattle.cu_base.specs.Refusals.{Row, row_at, first_refusal, AnswersBy}
@@ -24,7 +24,8 @@ first_byte rest = slice_index rest 0
 abbrev pub text_size : List ℕ → ℕ
 text_size bytes = prefix_len is_nonzero bytes
 
--- how many bytes the operation at the front takes; a text without a zero byte takes more than there are
+-- how many bytes the operation at the front takes; a text without a zero byte takes more than there
+-- are
 abbrev pub op_size : List ℕ → ℕ
 op_size rest =
     if first_byte rest == 0x00 then 17

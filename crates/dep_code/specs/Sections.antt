@@ -1,5 +1,6 @@
--- When bytes are a dependency section (UEFI 2.10, 23.2): they are operations that end with END and are the postfix
--- form of a tree. Its limit, and what DECLARE_LENGTH says and where it stands, are this tool's own.
+-- When bytes are a dependency section (UEFI 2.10, 23.2): they are operations that end with END and
+-- are the postfix form of a tree. Its limit, and what DECLARE_LENGTH says and where it stands, are
+-- this tool's own.
 use Rattle.std.specs.Prelude.{◌≡◌, ℕ, ◌+◌, ◌≤◌, Bool, true, not, IsTrue, List, [], ◌∷◌, ◌++◌, length, take, drop, map, ◌==◌}
 use Rattle.std.specs.List.{list_all, AllByRecursion}
 use Rattle.dep_code.specs.declared.limits.TheConstants.{MAX_SECTION_BYTES}
@@ -17,7 +18,8 @@ goes_on op = not (is_end op)
 abbrev pub may_follow : Op → Bool
 may_follow op = not (is_declare op)
 
--- operations before an END: each has its form, none is END, and only the first may be DECLARE_LENGTH
+-- operations before an END: each has its form, none is END, and only the first may be
+-- DECLARE_LENGTH
 pub record AreBeforeEnd (ops : List Op) : Type 0 where
   pub forms : AllByRecursion HasForm ops
   pub no_end : IsTrue (list_all goes_on ops)

@@ -1,5 +1,5 @@
--- The tree of a dependency section, and the operations that are its postfix form. The left operand is the one that is
--- pushed last and popped first: that is this tool's own.
+-- The tree of a dependency section, and the operations that are its postfix form. The left operand
+-- is the one that is pushed last and popped first: that is this tool's own.
 use Rattle.std.specs.Prelude.{◌≡◌, List, [], ◌∷◌, ◌++◌}
 use Rattle.dep_code.specs.declared.op.Op.{Op}
 use Rattle.dep_code.specs.declared.op.Op.TheVariants.{PushGuid, PushVersion, And, Or, Not, True, False, Eq, Gt, Gte, Lt, Lte}

@@ -1,5 +1,5 @@
--- The types of a dependency section: each operation takes values from a stack and leaves one there. A value is a
--- number or a truth value.
+-- The types of a dependency section: each operation takes values from a stack and leaves one there.
+-- A value is a number or a truth value.
 use Rattle.std.specs.Prelude.{Bool, true, false, List, [], ◌∷◌, ◌++◌, Option, None, Some, option_map, option_and_then, is_some}
 use Rattle.dep_code.specs.declared.op.Op.{Op}
 use Rattle.dep_code.specs.declared.op.Op.TheVariants.{PushGuid, PushVersion, VersionStr, And, Or, Not, True, False, Eq, Gt, Gte, Lt, Lte, End, DeclareLength}
@@ -58,7 +58,8 @@ stack_behind op stack = option_map (λ left. gives op ++ left) (without (takes o
 -- the stack behind operations
 abbrev pub stack_after : List Kind → List Op → Option (List Kind)
 stack_after stack [] = Some stack
-stack_after stack (op ∷ ops) = option_and_then (λ next. stack_after next ops) (stack_behind op stack)
+stack_after stack (op ∷ ops) = option_and_then (λ next. stack_after next ops)
+    (stack_behind op stack)
 
 -- each of the operations finds its operands on the stack
 abbrev pub is_typed : List Op → Bool

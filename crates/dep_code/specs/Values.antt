@@ -14,7 +14,8 @@ use Rattle.dep_code.specs.Trees.{IsTreeOf}
 
 -- the version in the first pair of a GUID
 abbrev pub version_of : List (Guid × ℕ) → Guid → Option ℕ
-version_of versions guid = option_map (λ p. p.1) (find (λ p. bytes_eq p.0.bytes guid.bytes) versions)
+version_of versions guid = option_map (λ p. p.1)
+    (find (λ p. bytes_eq p.0.bytes guid.bytes) versions)
 
 -- a GUID is in the list, where the operand names one
 abbrev pub is_known : List (Guid × ℕ) → Compared → Bool
@@ -41,7 +42,8 @@ knows_all versions tree.False = true
 knows_all versions (tree.Not t) = knows_all versions t
 knows_all versions (tree.And left right) = knows_all versions left && knows_all versions right
 knows_all versions (tree.Or left right) = knows_all versions left && knows_all versions right
-knows_all versions (tree.Compare kind left right) = is_known versions left && is_known versions right
+knows_all versions (tree.Compare kind left right) =
+    is_known versions left && is_known versions right
 
 -- the value of a tree whose GUIDs are in the list
 abbrev pub value : List (Guid × ℕ) → Tree → Bool
@@ -50,7 +52,8 @@ value versions tree.False = false
 value versions (tree.Not t) = not (value versions t)
 value versions (tree.And left right) = value versions left && value versions right
 value versions (tree.Or left right) = value versions left || value versions right
-value versions (tree.Compare kind left right) = holds kind (number_of versions left) (number_of versions right)
+value versions (tree.Compare kind left right) =
+    holds kind (number_of versions left) (number_of versions right)
 
 -- every GUID of the tree is in the list, and its value is true
 abbrev pub is_satisfied : List (Guid × ℕ) → Tree → Bool

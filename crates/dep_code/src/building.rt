@@ -39,7 +39,8 @@ fn build(alloc: Global, ops: &[(u32, Op)]) -> Result<DepTree, NoMemory>
 /// What an operation builds of the entries at the top.
 fn apply(alloc: Global, stack: &mut Stack<Entry>, op: &Op) -> Result<(), NoMemory>
     requires { IsSome (entries_behind op.now (entries_seen stack.old)) }
-    ensures { OnOk result (entries_behind op.now (entries_seen stack.old) ≡ Some (entries_seen stack.new)) }
+    ensures { OnOk result
+        (entries_behind op.now (entries_seen stack.old) ≡ Some (entries_seen stack.new)) }
 {
     match op {
         Op::PushGuid(guid) => stack.push(Entry::Operand(Compared::Guid(*guid))),
@@ -78,7 +79,8 @@ fn negate(alloc: Global, stack: &mut Stack<Entry>) -> Result<(), NoMemory>
 /// Compares the two operands at the top, of which the upper is the left one.
 fn compare(stack: &mut Stack<Entry>, kind: CompareKind) -> Result<(), NoMemory>
     requires { IsSome (compared_by kind (entries_seen stack.old)) }
-    ensures { OnOk result (compared_by kind (entries_seen stack.old) ≡ Some (entries_seen stack.new)) }
+    ensures { OnOk result
+        (compared_by kind (entries_seen stack.old) ≡ Some (entries_seen stack.new)) }
 {
     let left = pop_operand(stack);
     let right = pop_operand(stack);

@@ -20,8 +20,8 @@ pub enum Value {
     Truth(bool),
 }
 
-/// Whether every GUID that the section names is in the list, and its value is true. A GUID has the version of its
-/// first pair.
+/// Whether every GUID that the section names is in the list, and its value is true. A GUID has the
+/// version of its first pair.
 pub fn eval(alloc: Global, ops: &Ops, versions: &Versions) -> Result<bool, NoMemory>
     ensures { IfOk result (λ answer. IsAnswerOf (ops_of ops.now) versions.now.items answer) }
 {

@@ -24,7 +24,8 @@ pub enum DepWhy {
     TooLong,
 }
 
-/// The first wrong place of bytes that are no section, counted from their start, and what is wrong there.
+/// The first wrong place of bytes that are no section, counted from their start, and what is wrong
+/// there.
 #[derive(Clone, Copy, Debug, PartialEq, Eq, Error)]
 #[error("refused at {at}: {why}")]
 pub struct DepFault {

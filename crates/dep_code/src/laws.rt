@@ -1,5 +1,6 @@
-//! The laws of sections: bytes begin with one section, or are refused at one place for one cause, and never both.
-//! Operations that are typed on the stack and leave one truth value are the postfix form of one tree.
+//! The laws of sections: bytes begin with one section, or are refused at one place for one cause,
+//! and never both. Operations that are typed on the stack and leave one truth value are the postfix
+//! form of one tree.
 
 ghost use Rattle.std.specs.Prelude.{◌≡◌, ◌<◌, ◌⊎◌, ℕ, List, ◌++◌, IsTrue};
 ghost use Rattle.cu_base.specs.Bytes.{IsBytes};
@@ -49,8 +50,11 @@ pub fn one_tree()
         IsTreeOf tree ops → IsTreeOf other ops → tree ≡ other }
 {}
 
-/// Operations leave one truth value on the stack of types exactly where they are the postfix form of a tree.
+/// Operations leave one truth value on the stack of types exactly where they are the postfix form
+/// of a tree.
 pub fn typed_is_a_tree()
-    ensures tree { (ops : List Op) → IsTrue (leaves_one_truth ops) → (tree : Tree) × IsTreeOf tree ops }
-    ensures typed { (ops : List Op) (tree : Tree) → IsTreeOf tree ops → IsTrue (leaves_one_truth ops) }
+    ensures tree { (ops : List Op) → IsTrue (leaves_one_truth ops) →
+        (tree : Tree) × IsTreeOf tree ops }
+    ensures typed { (ops : List Op) (tree : Tree) →
+        IsTreeOf tree ops → IsTrue (leaves_one_truth ops) }
 {}

@@ -1,10 +1,11 @@
-//! Dependency sections of update images (UEFI 2.10, 23.2): operations of a stack machine that say which versions
-//! the devices of a platform must have.
+//! Dependency sections of update images (UEFI 2.10, 23.2): operations of a stack machine that say
+//! which versions the devices of a platform must have.
 //!
-//! `read_ops` reads the section at the front of bytes: its operations with their places, or the first wrong place
-//! and what is wrong there. An `Ops` is made by it alone, so `write_ops` gives the bytes back, `tree_of` the one
-//! tree that the operations are the postfix form of, and `eval` says whether it is satisfied. The laws of `laws`
-//! say that bytes begin with one section or are refused at one place for one cause, and never both.
+//! `read_ops` reads the section at the front of bytes: its operations with their places, or the
+//! first wrong place and what is wrong there. An `Ops` is made by it alone, so `write_ops` gives
+//! the bytes back, `tree_of` the one tree that the operations are the postfix form of, and `eval`
+//! says whether it is satisfied. The laws of `laws` say that bytes begin with one section or are
+//! refused at one place for one cause, and never both.
 #![tactic(auto)]
 
 mod building;

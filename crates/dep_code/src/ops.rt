@@ -4,7 +4,8 @@ use crate::Op;
 use cu_base::Items;
 use std::marker::Model;
 
-/// The operations of a section with their places. It is made by `read_ops` alone, so it always is a section.
+/// The operations of a section with their places. It is made by `read_ops` alone, so it always is a
+/// section.
 #[derive(Drop)]
 pub struct Ops {
     list: Items<(u32, Op)>,

@@ -13,8 +13,8 @@ use crate::typing::check_types;
 use crate::{DepRefusal, DepWhy, Op, Ops};
 use std::alloc::Global;
 
-/// The section at the front of the bytes, and its length (UEFI 2.10, 23.2). The bytes behind it are not
-/// looked at. Dep tells the first wrong place, Memory that no room was left.
+/// The section at the front of the bytes, and its length (UEFI 2.10, 23.2). The bytes behind it are
+/// not looked at. Dep tells the first wrong place, Memory that no room was left.
 pub fn read_ops(alloc: Global, bytes: &[u8]) -> Result<(Ops, usize), DepRefusal>
     ensures ok { IfOk result (λ x. StandsAtFront bytes.now x.0 x.1) }
     ensures only { (items : List (ℕ × Op)) (size : ℕ) →
@@ -34,7 +34,8 @@ fn read_section(alloc: Global, bytes: &[u8]) -> Result<(Ops, usize), DepRefusal>
     Ok((Ops::of(list), size))
 }
 
-/// Whether operations up to END, of `size` bytes, keep the rules together, or the first wrong place.
+/// Whether operations up to END, of `size` bytes, keep the rules together, or the first wrong
+/// place.
 fn check_section(alloc: Global, ops: &[(u32, Op)], size: usize) -> Result<(), DepRefusal>
     requires size { size ≡ length (section_bytes (ops_of ops.now)) }
     requires places { ops.now ≡ placed 0 (ops_of ops.now) }

@@ -40,7 +40,8 @@ fn is_end(op: &Op) -> bool
     matches!(op, Op::End)
 }
 
-/// How many bytes the operation at a place takes, or what is wrong there. `rest` is the bytes from there on.
+/// How many bytes the operation at a place takes, or what is wrong there. `rest` is the bytes from
+/// there on.
 fn check_place(rest: &[u8], at: u32) -> Result<usize, DepRefusal>
     requires { at ≤ MAX_SECTION_BYTES }
     ensures rows { Answers result (first_refusal (place_rows rest.now at)) }
@@ -68,7 +69,8 @@ fn check_place(rest: &[u8], at: u32) -> Result<usize, DepRefusal>
     Ok(size)
 }
 
-/// How many bytes the operation at the front takes. A text without a zero byte takes more than there are.
+/// How many bytes the operation at the front takes. A text without a zero byte takes more than
+/// there are.
 fn op_size(rest: &[u8]) -> usize
     requires { 0 < length rest.now }
     ensures { result ≡ op_size rest.now }

@@ -1,5 +1,5 @@
-//! Sections written by hand from the table of operations, and one call with ample memory of each function that
-//! may want memory.
+//! Sections written by hand from the table of operations, and one call with ample memory of each
+//! function that may want memory.
 
 use crate::{
     CompareKind, Compared, DepFault, DepRefusal, DepTree, DepWhy, Op, Ops, Versions, eval,

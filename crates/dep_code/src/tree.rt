@@ -1,7 +1,7 @@
 use cu_base::Guid;
 
-/// What a dependency section asks: a truth value of the versions of devices. Of two operands the first is the left
-/// one.
+/// What a dependency section asks: a truth value of the versions of devices. Of two operands the
+/// first is the left one.
 #[derive(Drop)]
 pub enum DepTree {
     True,

@@ -33,7 +33,9 @@ pub fn check_types(alloc: Global, ops: &[(u32, Op)]) -> Result<(), DepRefusal>
 
 /// What an operation does to the stack, and whether it finds its operands there.
 fn apply(stack: &mut Stack<Kind>, op: &Op) -> Result<bool, NoMemory>
-    ensures { IfOk result (λ there. MatchBool there (stack_behind op.now stack.old ≡ Some stack.new) (stack_behind op.now stack.old ≡ None)) }
+    ensures { IfOk result (λ there. MatchBool there
+        (stack_behind op.now stack.old ≡ Some stack.new)
+        (stack_behind op.now stack.old ≡ None)) }
 {
     if !take_operands(stack, op) {
         return Ok(false);
@@ -44,7 +46,9 @@ fn apply(stack: &mut Stack<Kind>, op: &Op) -> Result<bool, NoMemory>
 
 /// Takes the operands of an operation, if they are there.
 fn take_operands(stack: &mut Stack<Kind>, op: &Op) -> bool
-    ensures { MatchBool result (without (takes op.now) stack.old ≡ Some stack.new) (without (takes op.now) stack.old ≡ None) }
+    ensures { MatchBool result
+        (without (takes op.now) stack.old ≡ Some stack.new)
+        (without (takes op.now) stack.old ≡ None) }
 {
     match op {
         Op::Not => take(stack, Kind::Truth),
@@ -56,7 +60,9 @@ fn take_operands(stack: &mut Stack<Kind>, op: &Op) -> bool
 
 /// Takes two values of this kind, if they are at the top.
 fn take_two(stack: &mut Stack<Kind>, kind: Kind) -> bool
-    ensures { MatchBool result (without (kind ∷ kind ∷ []) stack.old ≡ Some stack.new) (without (kind ∷ kind ∷ []) stack.old ≡ None) }
+    ensures { MatchBool result
+        (without (kind ∷ kind ∷ []) stack.old ≡ Some stack.new)
+        (without (kind ∷ kind ∷ []) stack.old ≡ None) }
 {
     if !take(stack, kind) {
         return false;
@@ -66,7 +72,9 @@ fn take_two(stack: &mut Stack<Kind>, kind: Kind) -> bool
 
 /// Takes a value of this kind, if it is at the top.
 fn take(stack: &mut Stack<Kind>, kind: Kind) -> bool
-    ensures { MatchBool result (stack.old ≡ kind ∷ stack.new) ((more : List Kind) → without (kind ∷ more) stack.old ≡ None) }
+    ensures { MatchBool result
+        (stack.old ≡ kind ∷ stack.new)
+        ((more : List Kind) → without (kind ∷ more) stack.old ≡ None) }
 {
     match stack.pop() {
         Some(top) => top == kind,

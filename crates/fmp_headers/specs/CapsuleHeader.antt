@@ -1,5 +1,5 @@
--- The capsule header, EFI_CAPSULE_HEADER (UEFI 2.10, 8.5.3): CapsuleGuid in 16 bytes, then HeaderSize, Flags
--- and CapsuleImageSize in 4 bytes each. CapsuleImageSize counts the header.
+-- The capsule header, EFI_CAPSULE_HEADER (UEFI 2.10, 8.5.3): CapsuleGuid in 16 bytes, then
+-- HeaderSize, Flags and CapsuleImageSize in 4 bytes each. CapsuleImageSize counts the header.
 use Rattle.std.specs.Prelude.{◌≡◌, ℕ, ◌^◌, ◌<◌, ◌≤◌, Bool, ◌||◌, List, [], ◌∷◌, ◌++◌, length, nat_lt, Option, None, Some, Result, Ok, Err}
 use Rattle.cu_base.specs.Fields.{field, number_at, bytes_of}
 use Rattle.cu_base.specs.Refusals.{Row, row, first_refusal}
@@ -22,7 +22,8 @@ is_short bytes = nat_lt (length bytes) 28
 
 -- HeaderSize below 28 or above CapsuleImageSize
 abbrev pub has_bad_header_size : List ℕ → Bool
-has_bad_header_size bytes = nat_lt (header_size bytes) 28 || nat_lt (image_size bytes) (header_size bytes)
+has_bad_header_size bytes =
+    nat_lt (header_size bytes) 28 || nat_lt (image_size bytes) (header_size bytes)
 
 -- CapsuleImageSize above the limit of a capsule
 abbrev pub is_above_limit : List ℕ → Bool
@@ -52,7 +53,8 @@ header_or (Some fault) header = Err fault
 
 -- the header, or the cause of the first row that holds
 abbrev pub capsule_header : List ℕ → Result CapsuleHeader HeaderFault
-capsule_header bytes = header_or (first_refusal (capsule_header_rows bytes)) (capsule_header_fields bytes)
+capsule_header bytes =
+    header_or (first_refusal (capsule_header_rows bytes)) (capsule_header_fields bytes)
 
 -- the layout of a header
 abbrev pub capsule_header_bytes : CapsuleHeader → List ℕ

@@ -1,5 +1,5 @@
--- The FMP capsule header, EFI_FIRMWARE_MANAGEMENT_CAPSULE_HEADER (UEFI 2.10, 23.3.2): Version in 4 bytes, then
--- EmbeddedDriverCount and PayloadItemCount in 2 bytes each.
+-- The FMP capsule header, EFI_FIRMWARE_MANAGEMENT_CAPSULE_HEADER (UEFI 2.10, 23.3.2): Version in 4
+-- bytes, then EmbeddedDriverCount and PayloadItemCount in 2 bytes each.
 use Rattle.std.specs.Prelude.{ℕ, ◌^◌, ◌<◌, List, [], ◌∷◌, ◌++◌, length, nat_lt, ◌==◌, not, Result}
 use Rattle.cu_base.specs.Fields.{number_at, bytes_of}
 use Rattle.cu_base.specs.Refusals.{Row, row, first_refusal}

@@ -1,7 +1,7 @@
--- The header of an image item, EFI_FIRMWARE_MANAGEMENT_CAPSULE_IMAGE_HEADER (UEFI 2.10, 23.3.2): Version in
--- 4 bytes, UpdateImageTypeId in 16, UpdateImageIndex in 1, 3 reserved bytes, UpdateImageSize and
--- UpdateVendorCodeSize in 4 bytes each. Version 2 adds UpdateHardwareInstance in 8 bytes, version 3 also
--- ImageCapsuleSupport in 8.
+-- The header of an image item, EFI_FIRMWARE_MANAGEMENT_CAPSULE_IMAGE_HEADER (UEFI 2.10, 23.3.2):
+-- Version in 4 bytes, UpdateImageTypeId in 16, UpdateImageIndex in 1, 3 reserved bytes,
+-- UpdateImageSize and UpdateVendorCodeSize in 4 bytes each. Version 2 adds UpdateHardwareInstance
+-- in 8 bytes, version 3 also ImageCapsuleSupport in 8.
 use Rattle.std.specs.Prelude.{◌≡◌, ℕ, ◌^◌, ◌<◌, IsTrue, Bool, ◌||◌, not, List, [], ◌∷◌, ◌++◌, ◌&&◌, length, slice_index, nat_lt, ◌==◌, if◌then◌else◌, Result}
 use Rattle.cu_base.specs.Fields.{field, number_at, bytes_of}
 use Rattle.cu_base.specs.Refusals.{Row, row, first_refusal}
@@ -22,7 +22,8 @@ is_image_version version = version == 1 || version == 2 || version == 3
 abbrev pub image_header_size : ℕ → ℕ
 image_header_size version = if version == 1 then 32 else if version == 2 then 40 else 48
 
--- when an image header is refused: below 32 bytes, then an unknown version, then below the bytes of that version
+-- when an image header is refused: below 32 bytes, then an unknown version, then below the bytes of
+-- that version
 abbrev pub image_header_rows : List ℕ → List (Row HeaderFault)
 image_header_rows bytes =
     row (nat_lt (length bytes) 32) Short

@@ -31,8 +31,8 @@ pub struct CapsuleHeader {
 
 impl CapsuleHeader {
     /// The capsule header at the front of the bytes. It is refused as Short below 28 bytes, then as
-    /// BadHeaderSize where HeaderSize is below 28 or above CapsuleImageSize, then as BadImageSize where
-    /// CapsuleImageSize is above the limit of a capsule.
+    /// BadHeaderSize where HeaderSize is below 28 or above CapsuleImageSize, then as BadImageSize
+    /// where CapsuleImageSize is above the limit of a capsule.
     pub fn read(bytes: &[u8]) -> Result<CapsuleHeader, HeaderFault>
         ensures value { result ≡ capsule_header bytes.now }
     {
@@ -63,7 +63,8 @@ impl CapsuleHeader {
         out.push_slice(&self.to_bytes())
     }
 
-    /// The 28 bytes of the header: CapsuleGuid, HeaderSize, Flags and CapsuleImageSize, little-endian.
+    /// The 28 bytes of the header: CapsuleGuid, HeaderSize, Flags and CapsuleImageSize,
+    /// little-endian.
     fn to_bytes(&self) -> [u8; 28]
         ensures { result ≡ capsule_header_bytes self.now }
     {

@@ -29,8 +29,8 @@ pub struct FmpHeader {
 }
 
 impl FmpHeader {
-    /// The FMP capsule header at the front of the bytes. It is refused as Short below 8 bytes, then as
-    /// BadFmpVersion where Version is not 1.
+    /// The FMP capsule header at the front of the bytes. It is refused as Short below 8 bytes, then
+    /// as BadFmpVersion where Version is not 1.
     pub fn read(bytes: &[u8]) -> Result<FmpHeader, HeaderFault>
         ensures value { result ≡ fmp_header bytes.now }
     {

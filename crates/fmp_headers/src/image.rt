@@ -90,8 +90,8 @@ impl ImageHeader {
         Ok(fields(bytes, version))
     }
 
-    /// Whether the header keeps the rules of its version: it is 1, 2 or 3, version 1 has instance 0,
-    /// and only version 3 has a support other than 1.
+    /// Whether the header keeps the rules of its version: it is 1, 2 or 3, version 1 has instance
+    /// 0, and only version 3 has a support other than 1.
     pub fn keeps_version_rules(&self) -> bool
         ensures { result ≡ keeps_version_rules self.now }
     {
@@ -110,7 +110,8 @@ impl ImageHeader {
         image_header_size(self.version)
     }
 
-    /// Appends the bytes of the header, as many as its version has. NoMemory leaves the blob as it was.
+    /// Appends the bytes of the header, as many as its version has. NoMemory leaves the blob as it
+    /// was.
     pub fn write_into(&self, out: &mut Blob) -> Result<(), NoMemory>
         requires { IsTrue (keeps_version_rules self.now) }
         ensures ok { OnOk result (out.new ≡ out.old ++ image_header_bytes self.now) }

@@ -22,8 +22,8 @@ pub fn fixed_bytes_are()
     ensures guid { FMP_CAPSULE_GUID.bytes ≡ fmp_guid_bytes }
 {}
 
-/// A capsule header within the limits is read again from its layout, whatever follows it. One that is
-/// read is within the limits, and its layout is the front that it was read from.
+/// A capsule header within the limits is read again from its layout, whatever follows it. One that
+/// is read is within the limits, and its layout is the front that it was read from.
 pub fn capsule_header_law()
     ensures again { (h : CapsuleHeader) (rest : List ℕ) → IsCapsuleHeader h →
         capsule_header (capsule_header_bytes h ++ rest) ≡ Ok h }
@@ -50,5 +50,6 @@ pub fn image_header_law()
     ensures kept { (bytes : List ℕ) (h : ImageHeader) → IsBytes bytes →
         image_header bytes ≡ Ok h → IsImageHeader h }
     ensures back { (bytes : List ℕ) (h : ImageHeader) → IsBytes bytes →
-        image_header bytes ≡ Ok h → image_header_bytes h ≡ take (image_header_size h.version) bytes }
+        image_header bytes ≡ Ok h →
+        image_header_bytes h ≡ take (image_header_size h.version) bytes }
 {}

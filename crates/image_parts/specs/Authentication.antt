@@ -1,6 +1,6 @@
--- The authentication data of an update image, EFI_FIRMWARE_IMAGE_AUTHENTICATION (UEFI 2.10, 23.1): MonotonicCount
--- in 8 bytes, then WIN_CERTIFICATE_UEFI_GUID: dwLength in 4, wRevision and wCertificateType in 2 each, CertType in
--- 16, and CertData. dwLength counts from its own place.
+-- The authentication data of an update image, EFI_FIRMWARE_IMAGE_AUTHENTICATION (UEFI 2.10, 23.1):
+-- MonotonicCount in 8 bytes, then WIN_CERTIFICATE_UEFI_GUID: dwLength in 4, wRevision and
+-- wCertificateType in 2 each, CertType in 16, and CertData. dwLength counts from its own place.
 use Rattle.std.specs.Prelude.{◌≡◌, ℕ, ◌+◌, ◌-◌, ◌^◌, ◌<◌, Bool, ◌||◌, not, List, [], ◌∷◌, ◌++◌, length, nat_lt, ◌==◌}
 use Rattle.cu_base.specs.Fields.{field, number_at, bytes_of}
 use Rattle.cu_base.specs.Refusals.{Row, row_at}
@@ -18,7 +18,8 @@ authentication_size image = 8 + certificate_size image
 
 -- dwLength below the fields that it counts, or past the end of the image
 abbrev pub has_bad_length : List ℕ → Bool
-has_bad_length image = nat_lt (certificate_size image) 24 || nat_lt (length image) (authentication_size image)
+has_bad_length image =
+    nat_lt (certificate_size image) 24 || nat_lt (length image) (authentication_size image)
 
 -- the rows of wRevision and wCertificateType
 abbrev pub certificate_rows : List ℕ → List (Row (ℕ × PartWhy))
@@ -42,10 +43,12 @@ authentication_at image = record {
   cert = field image 32 (authentication_size image - 32);
 }
 
--- the bytes of authentication data, by the lengths of its value: wRevision is 0x0200, wCertificateType is 0x0EF1
+-- the bytes of authentication data, by the lengths of its value: wRevision is 0x0200,
+-- wCertificateType is 0x0EF1
 abbrev pub authentication_bytes : AuthValue → List ℕ
 authentication_bytes a =
-    bytes_of 8 a.monotonic ++ bytes_of 4 (24 + length a.cert) ++ bytes_of 2 0x0200 ++ bytes_of 2 0x0EF1
+    bytes_of 8 a.monotonic ++ bytes_of 4 (24 + length a.cert) ++ bytes_of 2 0x0200
+    ++ bytes_of 2 0x0EF1
     ++ a.cert_type.bytes ++ a.cert
 
 -- each field has its width

@@ -1,4 +1,5 @@
--- The parts of an update image by their places: where each begins and ends by what the ones before it say.
+-- The parts of an update image by their places: where each begins and ends by what the ones before
+-- it say.
 use Rattle.std.specs.Prelude.{◌≡◌, ℕ, ◌+◌, ◌-◌, List, [], drop, Option, None, Some, if◌then◌else◌}
 use Rattle.cu_base.specs.Fields.{field}
 use Rattle.cu_base.specs.Refusals.{Row, first_refusal}
@@ -27,7 +28,8 @@ auth_rows image support = if has_authentication support then authentication_rows
 
 -- the section of this length at a place, where one is due
 abbrev pub dep_at : List ℕ → ℕ → ℕ → ℕ → Option (List ℕ)
-dep_at image support start size = if has_section support then Some (field image start size) else None
+dep_at image support start size =
+    if has_section support then Some (field image start size) else None
 
 -- what stands behind a section of this length
 abbrev pub behind_section : List ℕ → ℕ → ℕ → List ℕ
@@ -35,7 +37,8 @@ behind_section image support size = drop (auth_end image support + size) image
 
 -- the rows of the payload header behind a section of this length
 abbrev pub head_rows : List ℕ → ℕ → ℕ → List (Row (ℕ × PartWhy))
-head_rows image support size = payload_header_rows (behind_section image support size) (auth_end image support + size)
+head_rows image support size =
+    payload_header_rows (behind_section image support size) (auth_end image support + size)
 
 -- the parts at their places, the section being of this length
 abbrev pub parts_at : List ℕ → ℕ → ℕ → PartsValue

@@ -1,6 +1,6 @@
--- The payload header, FMP_PAYLOAD_HEADER (EDK II, FmpDevicePkg, FmpPayloadHeaderLibV1): Signature `MSS1`, HeaderSize,
--- FwVersion and LowestSupportedVersion, in 4 bytes each. HeaderSize counts these 16 bytes and what follows them up to
--- the payload.
+-- The payload header, FMP_PAYLOAD_HEADER (EDK II, FmpDevicePkg, FmpPayloadHeaderLibV1): Signature
+-- `MSS1`, HeaderSize, FwVersion and LowestSupportedVersion, in 4 bytes each. HeaderSize counts
+-- these 16 bytes and what follows them up to the payload.
 use Rattle.std.specs.Prelude.{◌≡◌, ℕ, ◌+◌, ◌^◌, ◌<◌, Bool, ◌||◌, not, List, [], ◌∷◌, ◌++◌, length, nat_lt}
 use Rattle.std.specs.Str.{bytes_eq}
 use Rattle.cu_base.specs.Fields.{field, number_at, bytes_of}
@@ -21,7 +21,8 @@ header_size rest = number_at rest 4 4
 abbrev pub has_bad_size : List ℕ → Bool
 has_bad_size rest = nat_lt (header_size rest) 16 || nat_lt (length rest) (header_size rest)
 
--- when the payload header at the front of bytes is refused, in order; the bytes begin at this place of the image
+-- when the payload header at the front of bytes is refused, in order; the bytes begin at this place
+-- of the image
 abbrev pub payload_header_rows : List ℕ → ℕ → List (Row (ℕ × PartWhy))
 payload_header_rows rest at =
     row_at (nat_lt (length rest) 16) at ShortPayloadHeader
@@ -39,7 +40,8 @@ payload_head_at rest = record {
 
 -- the bytes of the fields
 abbrev pub payload_head_bytes : PayloadHead → List ℕ
-payload_head_bytes h = signature ++ bytes_of 4 h.header_size ++ bytes_of 4 h.version ++ bytes_of 4 h.lowest
+payload_head_bytes h = signature ++ bytes_of 4 h.header_size ++ bytes_of 4 h.version
+    ++ bytes_of 4 h.lowest
 
 -- each field has its width, and HeaderSize counts the fields and these bytes
 pub record IsPayloadHead (h : PayloadHead) (extra : List ℕ) : Type 0 where

@@ -26,7 +26,8 @@ pub record RefusesAsSection (bytes : List ℕ) (start at : ℕ) (why : PartWhy) 
   pub sum : at ≡ start + place
   pub told : why ≡ Dep cause
 
--- the authentication data is not refused, a section is due behind it, and what stands there is refused
+-- the authentication data is not refused, a section is due behind it, and what stands there is
+-- refused
 pub record RefusesSection (image : List ℕ) (support at : ℕ) (why : PartWhy) : Type 0 where
   pub auth : first_refusal (auth_rows image support) ≡ None
   pub due : IsTrue (has_section support)
@@ -42,7 +43,8 @@ pub record RefusesHead (image : List ℕ) (support at : ℕ) (why : PartWhy) : T
 -- the image is refused at this place for this cause
 abbrev pub IsRefused : List ℕ → ℕ → ℕ → PartWhy → Type 0
 IsRefused image support at why =
-    RefusesAuth image support at why ⊎ RefusesSection image support at why ⊎ RefusesHead image support at why
+    RefusesAuth image support at why ⊎ RefusesSection image support at why
+    ⊎ RefusesHead image support at why
 
 -- the answer is this refusal of bytes as a section, or want of memory, which is free
 abbrev pub IsSectionRefusal : PartRefusal → List ℕ → ℕ → Type 0

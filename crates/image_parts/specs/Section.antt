@@ -1,4 +1,5 @@
--- The dependency section of an update image (UEFI 2.10, 23.2), which stands behind its authentication data.
+-- The dependency section of an update image (UEFI 2.10, 23.2), which stands behind its
+-- authentication data.
 use Rattle.std.specs.Prelude.{◌≡◌, ℕ, ◌≤◌, Bool, true, false, List, length, take}
 use Rattle.dep_code.specs.declared.op.Op.{Op}
 use Rattle.dep_code.specs.Sections.{IsSection}

@@ -1,5 +1,5 @@
--- ImageCapsuleSupport of an image header (UEFI 2.10, 23.3.2): what stands in an update image before its payload
--- header.
+-- ImageCapsuleSupport of an image header (UEFI 2.10, 23.3.2): what stands in an update image before
+-- its payload header.
 use Rattle.std.specs.Prelude.{ℕ, ◌/◌, ◌%◌, ◌==◌, Bool}
 
 -- bit 0: authentication data

@@ -11,7 +11,8 @@ pub record AuthValue : Type 0 where
   pub cert_type : Guid
   pub cert : List ℕ
 
--- authentication data, dependency section, payload header, what stands between its fields and its end, and payload
+-- authentication data, dependency section, payload header, what stands between its fields and its
+-- end, and payload
 pub record PartsValue : Type 0 where
   pub auth : Option AuthValue
   pub dep : Option (List ℕ)

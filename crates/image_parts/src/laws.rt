@@ -1,5 +1,6 @@
 //! The laws of update images: an image has its parts in one way, or is refused at one place for one
-//! cause, and never both. Its parts as they are written one behind another are its parts at their places.
+//! cause, and never both. Its parts as they are written one behind another are its parts at their
+//! places.
 
 ghost use Rattle.std.specs.Prelude.{◌≡◌, ◌<◌, ◌⊎◌, ℕ, List, [], ◌∷◌};
 ghost use Rattle.cu_base.specs.Bytes.{IsBytes};

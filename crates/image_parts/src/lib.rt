@@ -1,8 +1,10 @@
-//! The parts of an update image: authentication data, dependency section, payload header and payload (UEFI 2.10,
-//! 23.1 and 23.2; the payload header is EDK II's), and which images are admitted.
+//! The parts of an update image: authentication data, dependency section, payload header and
+//! payload (UEFI 2.10, 23.1 and 23.2; the payload header is EDK II's), and which images are
+//! admitted.
 //!
-//! `split` cuts an image into slices, or tells the first wrong place and what is wrong there. The parts that it gives
-//! are the image, one behind another. `is_admitted` says whether the SHA-256 of the whole image is listed.
+//! `split` cuts an image into slices, or tells the first wrong place and what is wrong there. The
+//! parts that it gives are the image, one behind another. `is_admitted` says whether the SHA-256 of
+//! the whole image is listed.
 #![tactic(auto)]
 
 mod admission;

@@ -11,7 +11,8 @@ use crate::{PartFault, PartRefusal, PartWhy};
 use dep_code::{DepRefusal, read_ops};
 use std::alloc::Global;
 
-/// How many bytes at the front are the section: none where none is due. The bytes begin at place `start` of the image.
+/// How many bytes at the front are the section: none where none is due. The bytes begin at place
+/// `start` of the image.
 pub fn section_size(
     alloc: Global,
     rest: &[u8],

@@ -14,8 +14,9 @@ use crate::section::{section_at, section_size};
 use crate::{PartRefusal, Parts};
 use std::alloc::Global;
 
-/// The parts of the image of this support, which are slices of it (UEFI 2.10, 23.1 and 23.2; EDK II,
-/// FmpPayloadHeaderLibV1). Part tells the first wrong place, Memory comes only where a section is due.
+/// The parts of the image of this support, which are slices of it (UEFI 2.10, 23.1 and 23.2; EDK
+/// II, FmpPayloadHeaderLibV1). Part tells the first wrong place, Memory comes only where a section
+/// is due.
 pub fn split<'a>(alloc: Global, image: &'a [u8], support: u64) -> Result<Parts<'a>, PartRefusal>
     requires { length image.now < 2 ^ 32 }
     ensures ok { IfOk result (λ p. IsPartsOf image.now support (parts_seen p)) }

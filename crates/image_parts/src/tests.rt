@@ -1,5 +1,5 @@
-//! Images written by hand from the tables of UEFI 2.10, 23.1 and 23.2 and of EDK II's payload header, and admission
-//! by digests that another program computed.
+//! Images written by hand from the tables of UEFI 2.10, 23.1 and 23.2 and of EDK II's payload
+//! header, and admission by digests that another program computed.
 
 use crate::{AuthParts, PartFault, PartRefusal, PartWhy, Parts, PayloadHead, is_admitted, split};
 use cu_base::{Blob, Digest, Guid};

@@ -16,6 +16,8 @@ returns-clause-ok c =
     let same = sym c.in_ok-capsule.ensures in
     record {
       capsule = subst IsCapsule same (read_is_capsule bytes is none);
-      size = c.in_ok-size.ensures.ok ∙ sym (read_length bytes is none) ∙ ap (λ x. length (spelling x)) same;
-      spelled = ap (λ (n : ℕ). take n bytes) c.in_ok-size.ensures.ok ∙ sym (read_is_spelled bytes is none) ∙ ap spelling same;
+      size = c.in_ok-size.ensures.ok ∙ sym (read_length bytes is none)
+          ∙ ap (λ x. length (spelling x)) same;
+      spelled = ap (λ (n : ℕ). take n bytes) c.in_ok-size.ensures.ok
+          ∙ sym (read_is_spelled bytes is none) ∙ ap spelling same;
     }

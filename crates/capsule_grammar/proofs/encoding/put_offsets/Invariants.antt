@@ -7,5 +7,6 @@ use Rattle.capsule_grammar.proofs.encoding.put_offsets.Given as goal
 abbrev pub invariant-loop-k : goal.invariant-loop-k
 invariant-loop-k l = record {
   here : l.here ≡ first_place l.body + length (concat (take l.k (item_bytes l.body)));
-  so_far : l.out ≡ l.initial.out ++ flat_map (bytes_of 8) (offsets (first_place l.body) (take l.k (item_bytes l.body)));
+  so_far : l.out ≡ l.initial.out
+      ++ flat_map (bytes_of 8) (offsets (first_place l.body) (take l.k (item_bytes l.body)));
 }

@@ -9,7 +9,8 @@ returns-else-k-gt0 c = λ body b.
     let front = c.args.front.now in
     let k = c.args.k in
     let here : offset body k ≡ offset front k = offset_same k b c.requires.list c.requires.there in
-    let before : offset body (k - 1) ≡ offset front (k - 1) = offset_same (k - 1) b c.requires.list (omega arith) in
+    let before : offset body (k - 1) ≡ offset front (k - 1) =
+    offset_same (k - 1) b c.requires.list (omega arith) in
     let ends : list_end body ≡ list_end front = list_end_same b (omega arith) in
     rw (here, before, ends, b.long) (grind (arith, common_steps))
 
@@ -18,6 +19,7 @@ returns c = λ body b.
     let front = c.args.front.now in
     let k = c.args.k in
     let here : offset body k ≡ offset front k = offset_same k b c.requires.list c.requires.there in
-    let before : offset body (k - 1) ≡ offset front (k - 1) = offset_same (k - 1) b c.requires.list (omega arith) in
+    let before : offset body (k - 1) ≡ offset front (k - 1) =
+    offset_same (k - 1) b c.requires.list (omega arith) in
     let ends : list_end body ≡ list_end front = list_end_same b (omega arith) in
     rw (here, before, ends, b.long) (grind (arith, common_steps))

@@ -10,7 +10,10 @@ pub returns-in_err-check_offset-clause-refused : goal.returns-in_err-check_offse
 returns-in_err-check_offset-clause-refused c = λ body b.
     let p = err_from_is_err_and c.from_residual.result c.from_residual.ensures.1 in
     let n : item_count body ≡ item_count c.args.front.now = item_count_same b (omega arith) in
-    rw (p.1, p.2) (some_in (offset_rows body c.args.at) 0 (item_count body) c.loop-k.k _ (λ j low high. c.loop-k.invariant j high body b) (omega arith) (omega (arith, n)) (c.in_err-check_offset.ensures body b))
+    rw (p.1, p.2)
+    (some_in (offset_rows body c.args.at) 0 (item_count body) c.loop-k.k _
+    (λ j low high. c.loop-k.invariant j high body b) (omega arith) (omega (arith, n))
+    (c.in_err-check_offset.ensures body b))
 
 pub loop-k-preserved : goal.loop-k-preserved
 loop-k-preserved c = below_more _ _ c.loop-k.invariant c.in_ok-check_offset.ensures
@@ -18,7 +21,8 @@ loop-k-preserved c = below_more _ _ c.loop-k.invariant c.in_ok-check_offset.ensu
 pub returns-clause-refused : goal.returns-clause-refused
 returns-clause-refused c = λ body b.
     let n : item_count body ≡ item_count c.args.front.now = item_count_same b (omega arith) in
-    none_in (offset_rows body c.args.at) 0 (item_count body) (λ j low high. c.loop-k.invariant j (omega (arith, n)) body b)
+    none_in (offset_rows body c.args.at) 0 (item_count body)
+    (λ j low high. c.loop-k.invariant j (omega (arith, n)) body b)
 
 pub returns-clause-ok : goal.returns-clause-ok
 returns-clause-ok c =

@@ -19,7 +19,8 @@ pub returns-then-not-is_fmp_guid : goal.returns-then-not-is_fmp_guid
 returns-then-not-is_fmp_guid c =
     let bytes = c.args.bytes.now in
     let is : IsBytes bytes = λ i. omega (arith, c.type_inv.bytes i) in
-    let told = ap (λ (h : CapsuleHeader). is_fmp_guid h.guid.bytes) (sym c.capsule_header.ensures) in
+    let told = ap (λ (h : CapsuleHeader). is_fmp_guid h.guid.bytes)
+    (sym c.capsule_header.ensures) in
     let other : is_fmp_guid (field bytes 0 16) ≡ false =
     told ∙ sym c.is_fmp_guid.ensures ∙ c.if-not-is_fmp_guid.true in
     (λ t. other_is bytes is c.requires other, λ e. refl)
@@ -30,7 +31,8 @@ body-body-requires c = front_of c.args.bytes.now c.requires
 pub kept_size-requires-clause-body : goal.kept_size-requires-clause-body
 kept_size-requires-clause-body c =
     let bytes = c.args.bytes.now in
-    let told = ap (λ (h : CapsuleHeader). is_fmp_guid h.guid.bytes) (sym c.capsule_header.ensures) in
+    let told = ap (λ (h : CapsuleHeader). is_fmp_guid h.guid.bytes)
+    (sym c.capsule_header.ensures) in
     let fmp : is_fmp_guid (field bytes 0 16) ≡ true =
     told ∙ sym c.is_fmp_guid.ensures ∙ c.if-not-is_fmp_guid.false in
     subst IsFmpBody (sym c.body-body.ensures) (fmp_case bytes c.requires fmp)
@@ -40,7 +42,8 @@ returns c =
     let bytes = c.args.bytes.now in
     let body = body_of bytes in
     let is : IsBytes bytes = λ i. omega (arith, c.type_inv.bytes i) in
-    let told = ap (λ (h : CapsuleHeader). is_fmp_guid h.guid.bytes) (sym c.capsule_header.ensures) in
+    let told = ap (λ (h : CapsuleHeader). is_fmp_guid h.guid.bytes)
+    (sym c.capsule_header.ensures) in
     let fmp : is_fmp_guid (field bytes 0 16) ≡ true =
     told ∙ sym c.is_fmp_guid.ensures ∙ c.if-not-is_fmp_guid.false in
     let same = c.body-body.ensures in

@@ -15,8 +15,14 @@ pub returns : goal.returns
 returns c =
     let body = c.args.body.now in
     let is : IsBytes body = λ i. omega (arith, c.type_inv.body i) in
-    let header = fmp_header_bytes (record { drivers = driver_count body; items = image_count body }) in
+    let header = fmp_header_bytes
+    (record { drivers = driver_count body; items = image_count body }) in
     let list = flat_map (bytes_of 8) (offsets (list_end body) (kept_items body)) in
-    three_grown c.args.out.now header list (concat (kept_items body)) c.write_into.new.out c.put_kept_offsets.new.out c.put_kept_items.new.out (fmp_bytes (emptied_fmp (fmp_of body)))
-    (c.in_ok-write_into.ensures.ok ∙ ap (λ (l : List ℕ). c.args.out.now ++ l) (same_header c.driver_count.result (driver_count body) c.image_count.result (image_count body) c.driver_count.ensures c.image_count.ensures))
+    three_grown c.args.out.now header list
+    (concat (kept_items body)) c.write_into.new.out c.put_kept_offsets.new.out
+    c.put_kept_items.new.out (fmp_bytes (emptied_fmp (fmp_of body)))
+    (c.in_ok-write_into.ensures.ok
+    ∙ ap (λ (l : List ℕ). c.args.out.now ++ l)
+    (same_header c.driver_count.result (driver_count body) c.image_count.result
+    (image_count body) c.driver_count.ensures c.image_count.ensures))
     c.in_ok-put_kept_offsets.ensures c.in_ok-put_kept_items.ensures (fmp_kept body is c.requires)

@@ -10,5 +10,6 @@ abbrev pub invariant-loop-k : goal.invariant-loop-k
 invariant-loop-k l = record {
   within : l.here ≤ bound l.body l.k;
   here : l.here ≡ list_end l.body + length (concat (take l.k (kept_items l.body)));
-  so_far : l.out ≡ l.initial.out ++ flat_map (bytes_of 8) (offsets (list_end l.body) (take l.k (kept_items l.body)));
+  so_far : l.out ≡ l.initial.out
+      ++ flat_map (bytes_of 8) (offsets (list_end l.body) (take l.k (kept_items l.body)));
 }

@@ -13,7 +13,8 @@ capsule_header-requires c = front_of c.args.bytes.now c.in_ok-size.ensures.refus
 
 pub rebuild_fmp-requires-clause-fmp : goal.rebuild_fmp-requires-clause-fmp
 rebuild_fmp-requires-clause-fmp c =
-    let told = ap (λ (h : CapsuleHeader). is_fmp_guid h.guid.bytes) (sym c.capsule_header.ensures) in
+    let told = ap (λ (h : CapsuleHeader). is_fmp_guid h.guid.bytes)
+    (sym c.capsule_header.ensures) in
     fmp_case c.args.bytes.now c.in_ok-size.ensures.refused
     (told ∙ sym c.is_fmp_guid.ensures ∙ c.if-is_fmp_guid.true)
 
@@ -21,7 +22,8 @@ pub returns-in_ok-from_slice-clause-ok : goal.returns-in_ok-from_slice-clause-ok
 returns-in_ok-from_slice-clause-ok c =
     let bytes = c.args.bytes.now in
     let is : IsBytes bytes = λ i. omega (arith, c.type_inv.bytes i) in
-    let told = ap (λ (h : CapsuleHeader). is_fmp_guid h.guid.bytes) (sym c.capsule_header.ensures) in
+    let told = ap (λ (h : CapsuleHeader). is_fmp_guid h.guid.bytes)
+    (sym c.capsule_header.ensures) in
     let other : is_fmp_guid (field bytes 0 16) ≡ false =
     told ∙ sym c.is_fmp_guid.ensures ∙ c.if-is_fmp_guid.false in
     c.in_ok-from_slice.ensures ∙ ap (λ (n : ℕ). take n bytes) c.in_ok-size.ensures.ok
@@ -30,7 +32,8 @@ returns-in_ok-from_slice-clause-ok c =
 pub returns-in_ok-rebuild_fmp-clause-ok : goal.returns-in_ok-rebuild_fmp-clause-ok
 returns-in_ok-rebuild_fmp-clause-ok c =
     let bytes = c.args.bytes.now in
-    let told = ap (λ (h : CapsuleHeader). is_fmp_guid h.guid.bytes) (sym c.capsule_header.ensures) in
+    let told = ap (λ (h : CapsuleHeader). is_fmp_guid h.guid.bytes)
+    (sym c.capsule_header.ensures) in
     let fmp : is_fmp_guid (field bytes 0 16) ≡ true =
     told ∙ sym c.is_fmp_guid.ensures ∙ c.if-is_fmp_guid.true in
     c.in_ok-rebuild_fmp.ensures ∙ ap spelling (sym (emptied_is bytes fmp))

@@ -24,7 +24,8 @@ pub returns : goal.returns
 returns c =
     let bytes = c.args.bytes.now in
     let is : IsBytes bytes = λ i. omega (arith, c.type_inv.bytes i) in
-    let body_is = IsBytes-field bytes (header_size bytes) (image_size bytes - header_size bytes) is in
+    let body_is = IsBytes-field bytes (header_size bytes)
+    (image_size bytes - header_size bytes) is in
     let v = emptied_fmp (fmp_of (body_of bytes)) in
     let told = c.capsule_header-header.result in
     let here = c.capsule_header-header.ensures in
@@ -34,8 +35,10 @@ returns c =
       flags = told.flags;
       image_size = told.header_size + c.kept_size.result;
     } in
-    let head : told.header_size ≡ header_size bytes = ap (λ (x : CapsuleHeader). x.header_size) here in
-    let left : c.kept_size.result ≡ list_end (body_of bytes) + length (concat (kept_items (body_of bytes))) =
+    let head : told.header_size ≡ header_size bytes =
+    ap (λ (x : CapsuleHeader). x.header_size) here in
+    let left : c.kept_size.result ≡ list_end (body_of bytes) + length
+    (concat (kept_items (body_of bytes))) =
     c.kept_size.ensures.value
     ∙ ap (λ (l : List ℕ). list_end l + length (concat (kept_items l))) c.body-body.ensures in
     let kept = fmp_size_kept (body_of bytes) body_is c.requires.fmp in
@@ -50,4 +53,5 @@ returns c =
     (c.in_ok-push_slice.ensures.ok
     ∙ ap (λ (n : ℕ). c.write_into.new.out ++ field bytes 28 (n - 28)) head)
     (c.in_ok-put_kept_body.ensures
-    ∙ ap (λ (l : List ℕ). c.push_slice.new.self ++ fmp_bytes (emptied_fmp (fmp_of l))) c.body-body.ensures)
+    ∙ ap (λ (l : List ℕ). c.push_slice.new.self ++ fmp_bytes (emptied_fmp (fmp_of l)))
+    c.body-body.ensures)

@@ -9,18 +9,25 @@ loop-item-init c = record { entries = []; are = refl; values = sym c.new-stack.e
 
 pub apply-requires : goal.apply-requires
 apply-requires c =
-    let item : IsItem c.args.ops.now c.loop-item.item-index c.item-item.result = record { there = omega arith; here = c.item-item.is } in
-    computes_on c.args.versions.now c.args.ops.now c.loop-item.item-index c.item-item.result c.loop-item.stack c.requires item c.loop-item.invariant
+    let item : IsItem c.args.ops.now c.loop-item.item-index c.item-item.result =
+    record { there = omega arith; here = c.item-item.is } in
+    computes_on c.args.versions.now c.args.ops.now c.loop-item.item-index c.item-item.result
+    c.loop-item.stack c.requires item c.loop-item.invariant
 
 pub loop-item-preserved : goal.loop-item-preserved
 loop-item-preserved c =
-    let item : IsItem c.args.ops.now c.loop-item.item-index c.item-item.result = record { there = omega arith; here = c.item-item.is } in
-    computed_more c.args.versions.now c.args.ops.now c.loop-item.item-index c.item-item.result c.loop-item.stack c.apply.new.stack c.requires item c.loop-item.invariant c.in_ok-apply.ensures
+    let item : IsItem c.args.ops.now c.loop-item.item-index c.item-item.result =
+    record { there = omega arith; here = c.item-item.is } in
+    computed_more c.args.versions.now c.args.ops.now c.loop-item.item-index c.item-item.result
+    c.loop-item.stack c.apply.new.stack c.requires item c.loop-item.invariant c.in_ok-apply.ensures
 
 pub pop_truth-requires : goal.pop_truth-requires
-pop_truth-requires c = ap has_truth (all_computed c.args.versions.now c.args.ops.now c.loop-item.item-index c.loop-item.stack c.requires (omega arith) c.loop-item.invariant)
+pop_truth-requires c = ap has_truth
+    (all_computed c.args.versions.now c.args.ops.now c.loop-item.item-index c.loop-item.stack
+    c.requires (omega arith) c.loop-item.invariant)
 
 pub returns : goal.returns
 returns c =
-    let all = all_computed c.args.versions.now c.args.ops.now c.loop-item.item-index c.loop-item.stack c.requires (omega arith) c.loop-item.invariant in
+    let all = all_computed c.args.versions.now c.args.ops.now c.loop-item.item-index
+    c.loop-item.stack c.requires (omega arith) c.loop-item.invariant in
     (c.requires.tree, c.requires.is_section.reads, top_is _ _ _ _ all c.pop_truth.ensures)

@@ -9,4 +9,5 @@ returns-clause-ok c =
     found_parts c.args.image.now c.args.support c.cut.result is c.cut.ensures.ok
 
 pub returns-clause-only : goal.returns-clause-only
-returns-clause-only c = found_only c.args.image.now c.args.support c.cut.result c.cut.ensures.ok c.cut.ensures.refused
+returns-clause-only c = found_only c.args.image.now c.args.support c.cut.result c.cut.ensures.ok
+    c.cut.ensures.refused

@@ -5,4 +5,9 @@ use Rattle.cu_base.proofs.GuidLemmas.{refused}
 use Rattle.cu_base.proofs.guid.Guid.from_text.Goals as goal
 
 pub returns-in-Err : goal.returns-in-Err
-returns-in-Err c = record { value = sym (refused (parsed c.args.text.now) (λ bytes shown. false≢true (c.in-Err.ensures.ok.1 (bytes, shown)))) }
+returns-in-Err c =
+    record {
+      value = sym
+          (refused (parsed c.args.text.now)
+          (λ bytes shown. false≢true (c.in-Err.ensures.ok.1 (bytes, shown))));
+    }
