@@ -15,7 +15,8 @@ use Rattle.reference_machine.specs.Stops.{IsHeldEnd}
 use Rattle.reference_machine.specs.Machine.{Machine, File}
 use Rattle.reference_machine.specs.Spent.{spent, Element, is_open, is_attempt, is_attempted, floor_of}
 use Rattle.reference_machine.specs.Spent.Standing.{Open, Closed}
-use Rattle.reference_machine.specs.Verdicts.{refusal, refusal_with, first_failed, is_admitted, capacity_of, keeps_dependencies}
+use Rattle.image_parts.specs.Admission.{is_admitted}
+use Rattle.reference_machine.specs.Verdicts.{refusal, refusal_with, first_failed, capacity_of, keeps_dependencies}
 use Rattle.reference_machine.proofs.Lists.{Rests, Pends, above_more, none_more, find_none, find_last, settled_list}
 
 -- no settlement is left
@@ -71,7 +72,7 @@ claim_above f m u Try h = by_parts (f.parts u.image u.head.support) h
         → floor_of m.board m.list u.key.device ≤ (element_with u Open p).version
     by_parts None k = cc
     by_parts (Some p) k =
-        le_of _ _ (fourth_passed true (is_admitted m.board u.image)
+        le_of _ _ (fourth_passed true (is_admitted m.board.digests u.image)
         (nat_le (length p.payload) (capacity_of m.board u.key.device))
         (nat_le (floor_of m.board m.list u.key.device) p.version)
         (keeps_dependencies f m u.key.device p) 4 5 2 3 8 k)

@@ -17,7 +17,8 @@ use Rattle.reference_machine.specs.Machine.{Machine}
 use Rattle.reference_machine.specs.Report.{ReportValue}
 use Rattle.reference_machine.specs.Spent.{Element, is_open, floor_of}
 use Rattle.reference_machine.specs.Stops.{StopCause, Agrees, IsHeldEnd, is_folder_task, stops}
-use Rattle.reference_machine.specs.Verdicts.{refusal_with, is_admitted, capacity_of, keeps_dependencies}
+use Rattle.image_parts.specs.Admission.{is_admitted}
+use Rattle.reference_machine.specs.Verdicts.{refusal_with, capacity_of, keeps_dependencies}
 
 -- no boot is stopped by the volume before its heal
 heal_first : (f : Formats) (m : Machine) (h : End) (e : Element) (n : ℕ)
@@ -142,17 +143,17 @@ module _ (f : Formats) (m : Machine) (u : BootUnit) (p : Parts) where
   pub shape_fails : refusal_with f m u None ≡ Some 4
   shape_fails = refl
 
-  pub admission_fails : is_admitted m.board u.image ≡ false → refusal_with f m u (Some p) ≡ Some 5
+  pub admission_fails : is_admitted m.board.digests u.image ≡ false → refusal_with f m u (Some p) ≡ Some 5
   admission_fails a = rw a refl
 
-  pub capacity_fails : is_admitted m.board u.image ≡ true
+  pub capacity_fails : is_admitted m.board.digests u.image ≡ true
       → capacity_of m.board u.key.device < length p.payload → refusal_with f m u (Some p) ≡ Some 2
   capacity_fails a h =
       let c : nat_le (length p.payload) (capacity_of m.board u.key.device) ≡ false =
       not_at_most _ _ h in
       rw (a, c) refl
 
-  pub version_fails : is_admitted m.board u.image ≡ true
+  pub version_fails : is_admitted m.board.digests u.image ≡ true
       → length p.payload ≤ capacity_of m.board u.key.device
       → p.version < floor_of m.board m.list u.key.device → refusal_with f m u (Some p) ≡ Some 3
   version_fails a h k =
@@ -161,7 +162,7 @@ module _ (f : Formats) (m : Machine) (u : BootUnit) (p : Parts) where
       let v : nat_le (floor_of m.board m.list u.key.device) p.version ≡ false = not_at_most _ _ k in
       rw (a, c, v) refl
 
-  pub last_decides : is_admitted m.board u.image ≡ true
+  pub last_decides : is_admitted m.board.digests u.image ≡ true
       → length p.payload ≤ capacity_of m.board u.key.device
       → floor_of m.board m.list u.key.device ≤ p.version
       → refusal_with f m u (Some p) ≡ cond (keeps_dependencies f m u.key.device p) None (Some 8)

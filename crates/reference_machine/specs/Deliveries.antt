@@ -8,6 +8,7 @@ use Rattle.reference_machine.specs.declared.unit.Kind.TheVariants.{Try, Skip, No
 use Rattle.reference_machine.specs.declared.unit.UnitKey.{UnitKey}
 use Rattle.bench_model.specs.Boards.{BoardValue}
 use Rattle.bench_model.specs.Devices.{DeviceValue}
+use Rattle.fmp_headers.specs.declared.guids.TheConstants.{FMP_CAPSULE_GUID}
 use Rattle.reference_machine.specs.declared.limits.TheConstants.{MAX_CAPSULE_ITEMS}
 use Rattle.reference_machine.specs.Formats.{ItemHead, Item, Capsule, Formats}
 
@@ -35,10 +36,7 @@ no_guid = record { bytes = 0 ∷ 0 ∷ 0 ∷ 0 ∷ 0 ∷ 0 ∷ 0 ∷ 0 ∷ 0 ∷
 
 -- 6dcbd5ed-e82d-4c44-bda1-7194199ad92a, the GUID of FMP capsules (UEFI 2.10, 23.3)
 abbrev pub fmp_guid : Guid
-fmp_guid = record {
-  bytes = 0xED ∷ 0xD5 ∷ 0xCB ∷ 0x6D ∷ 0x2D ∷ 0xE8 ∷ 0x44 ∷ 0x4C ∷ 0xBD ∷ 0xA1
-      ∷ 0x71 ∷ 0x94 ∷ 0x19 ∷ 0x9A ∷ 0xD9 ∷ 0x2A ∷ [];
-}
+fmp_guid = FMP_CAPSULE_GUID
 
 -- two GUIDs are equal
 abbrev pub is_same_guid : Guid → Guid → Bool

@@ -1,20 +1,16 @@
 -- Whether an item may be tried on a device: the checks before a SetImage in their order, of which
 -- the first that fails refuses it with its LastAttemptStatus (UEFI 2.10, 23.4). They follow the
 -- checks of EDK II's FmpDevicePkg.
-use Rattle.std.specs.Prelude.{ℕ, Bool, true, false, ◌==◌, ◌&&◌, ◌||◌, not, nat_le, List, [], ◌∷◌, length, map, slice_get, bytes_eq, Option, None, Some, option_map, unwrap_or, if◌then◌else◌}
-use Rattle.std.specs.List.{list_any, list_all, enumerate_from}
-use Rattle.sha2.specs.Sha256.{sha256}
+use Rattle.std.specs.Prelude.{ℕ, Bool, true, false, ◌==◌, ◌&&◌, ◌||◌, not, nat_le, List, [], ◌∷◌, length, map, slice_get, Option, None, Some, option_map, unwrap_or, if◌then◌else◌}
+use Rattle.std.specs.List.{list_all, enumerate_from}
 use Rattle.cu_base.specs.declared.guid.Guid.{Guid}
+use Rattle.image_parts.specs.Admission.{is_admitted}
 use Rattle.bench_model.specs.Boards.{BoardValue}
 use Rattle.reference_machine.specs.declared.attempt_status.TheConstants.{LAST_ATTEMPT_STATUS_ERROR_INSUFFICIENT_RESOURCES, LAST_ATTEMPT_STATUS_ERROR_INCORRECT_VERSION, LAST_ATTEMPT_STATUS_ERROR_INVALID_FORMAT, LAST_ATTEMPT_STATUS_ERROR_AUTH_ERROR, LAST_ATTEMPT_STATUS_ERROR_UNSATISFIED_DEPENDENCIES}
 use Rattle.reference_machine.specs.Formats.{Parts, Formats}
 use Rattle.reference_machine.specs.Deliveries.{BootUnit}
 use Rattle.reference_machine.specs.Spent.{floor_of, version_of, versions_of, dependency_of}
 use Rattle.reference_machine.specs.Machine.{Machine}
-
--- the SHA-256 of the whole update image is listed
-abbrev pub is_admitted : BoardValue → List ℕ → Bool
-is_admitted board image = list_any (λ d. bytes_eq d.bytes (sha256 image)) board.digests
 
 -- the capacity of a device
 abbrev pub capacity_of : BoardValue → ℕ → ℕ
@@ -61,7 +57,7 @@ known_parts (Some parts) = parts
 abbrev pub checks : Formats → Machine → BootUnit → Option Parts → List (Bool × ℕ)
 checks f m u parts =
     (is_split parts, LAST_ATTEMPT_STATUS_ERROR_INVALID_FORMAT)
-    ∷ (is_admitted m.board u.image, LAST_ATTEMPT_STATUS_ERROR_AUTH_ERROR)
+    ∷ (is_admitted m.board.digests u.image, LAST_ATTEMPT_STATUS_ERROR_AUTH_ERROR)
     ∷ (
       nat_le (length p.payload) (capacity_of m.board d),
       LAST_ATTEMPT_STATUS_ERROR_INSUFFICIENT_RESOURCES,

@@ -14,7 +14,8 @@ ghost use Rattle.reference_machine.specs.Spent.{Element, is_open, floor_of};
 ghost use Rattle.reference_machine.specs.Stops.{Agrees};
 ghost use Rattle.reference_machine.specs.Stops.StopCause.{Volume};
 ghost use Rattle.reference_machine.specs.TraceValues.{EntryValue};
-ghost use Rattle.reference_machine.specs.Verdicts.{refusal_with, is_admitted, capacity_of, keeps_dependencies};
+ghost use Rattle.image_parts.specs.Admission.{is_admitted};
+ghost use Rattle.reference_machine.specs.Verdicts.{refusal_with, capacity_of, keeps_dependencies};
 ghost use Rattle.reference_machine.specs.declared.unit.End.{End};
 
 use crate::{
@@ -145,15 +146,15 @@ pub fn memory_is_full_past_its_limits()
 pub fn the_checks_stand_in_order()
     ensures format { (f : Formats) (m : Machine) (u : BootUnit) → refusal_with f m u None ≡ Some 4 }
     ensures admission { (f : Formats) (m : Machine) (u : BootUnit) (p : Parts) →
-        is_admitted m.board u.image ≡ false → refusal_with f m u (Some p) ≡ Some 5 }
+        is_admitted m.board.digests u.image ≡ false → refusal_with f m u (Some p) ≡ Some 5 }
     ensures capacity { (f : Formats) (m : Machine) (u : BootUnit) (p : Parts) →
-        is_admitted m.board u.image ≡ true → capacity_of m.board u.key.device < length p.payload →
+        is_admitted m.board.digests u.image ≡ true → capacity_of m.board u.key.device < length p.payload →
         refusal_with f m u (Some p) ≡ Some 2 }
     ensures version { (f : Formats) (m : Machine) (u : BootUnit) (p : Parts) →
-        is_admitted m.board u.image ≡ true → length p.payload ≤ capacity_of m.board u.key.device →
+        is_admitted m.board.digests u.image ≡ true → length p.payload ≤ capacity_of m.board u.key.device →
         p.version < floor_of m.board m.list u.key.device → refusal_with f m u (Some p) ≡ Some 3 }
     ensures dependencies { (f : Formats) (m : Machine) (u : BootUnit) (p : Parts) →
-        is_admitted m.board u.image ≡ true → length p.payload ≤ capacity_of m.board u.key.device →
+        is_admitted m.board.digests u.image ≡ true → length p.payload ≤ capacity_of m.board u.key.device →
         floor_of m.board m.list u.key.device ≤ p.version → refusal_with f m u (Some p) ≡
         (if keeps_dependencies f m u.key.device p then None else Some 8) }
 {}

@@ -16,7 +16,7 @@ use Rattle.reset_play.specs.ScriptWords.{is_file_name, is_input_name, number_wit
 abbrev pub where_it : (List ℕ → Bool) → List ℕ → Option (List ℕ)
 where_it test word = if test word then Some word else None
 
--- the one word of words, and the two
+-- the one word of words, where there is one
 abbrev pub only : List (List ℕ) → Option (List ℕ)
 only [] = None
 only (a ∷ []) = Some a
@@ -29,7 +29,7 @@ both (a ∷ []) = None
 both (a ∷ b ∷ []) = Some (a, b)
 both (a ∷ b ∷ c ∷ more) = None
 
--- what no operand says, what the one operand says, and what the two say
+-- what no operand says
 abbrev pub none : Event → List (List ℕ) → Option Event
 none event [] = Some event
 none event (a ∷ more) = None

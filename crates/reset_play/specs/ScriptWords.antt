@@ -13,7 +13,7 @@ abbrev pub parts_behind : ℕ → List ℕ → List (List ℕ)
 parts_behind mark [] = []
 parts_behind mark (m ∷ rest) = parts mark rest
 
--- the words of a line, with one space between any two, and the words behind a space
+-- the words of a line, with one space between any two
 abbrev pub words : List ℕ → List (List ℕ)
 words line = parts 32 line
 
@@ -56,7 +56,7 @@ number_within low high word =
     if is_decimal word && is_within low high (decimal_behind 0 word)
     then Some (decimal_behind 0 word) else None
 
--- a hexadecimal digit of either case, and its value
+-- a hexadecimal digit of either case
 abbrev pub is_hex_digit : ℕ → Bool
 is_hex_digit c = is_ascii_digit c || is_within 97 102 c || is_within 65 70 c
 

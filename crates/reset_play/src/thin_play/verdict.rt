@@ -5,24 +5,16 @@ ghost use Rattle.reference_machine.specs.Deliveries.{BootUnit};
 ghost use Rattle.reference_machine.specs.Machine.{Machine};
 ghost use Rattle.reset_play.specs.Thin.{thin};
 ghost use Rattle.reset_play.specs.ThinValues.{parts_of};
-ghost use Rattle.reference_machine.specs.Verdicts.{is_admitted, capacity_of, refusal, refusal_with};
+ghost use Rattle.reference_machine.specs.Verdicts.{capacity_of, refusal, refusal_with};
 
 use super::delivery::{PlainParts, read_parts};
 use super::spent::{SpentTry, first_device, floor_in_force};
 use bench_model::Board;
+use image_parts::is_admitted;
 use reference_machine::{
     LAST_ATTEMPT_STATUS_ERROR_AUTH_ERROR, LAST_ATTEMPT_STATUS_ERROR_INCORRECT_VERSION,
     LAST_ATTEMPT_STATUS_ERROR_INSUFFICIENT_RESOURCES, LAST_ATTEMPT_STATUS_ERROR_INVALID_FORMAT,
 };
-use sha2::{Digest, Sha256};
-
-// Whether the SHA-256 of the whole image is listed.
-fn is_admitted(board: &Board, image: &[u8]) -> bool
-    ensures { result ≡ is_admitted board.now image.now }
-{
-    let digest = Sha256::digest(image);
-    board.digests().iter().any(|listed| listed.bytes == digest)
-}
 
 // Whether a payload of so many bytes has room on the first device.
 fn has_room(board: &Board, size: usize) -> bool
@@ -43,7 +35,7 @@ fn refusal_of_parts(
         u.image ≡ image.now → u.key.device ≡ 0
         → result ≡ refusal_with thin m u (Some (parts_of parts.now)) }
 {
-    if !is_admitted(board, image) {
+    if !is_admitted(board.digests(), image) {
         return Some(LAST_ATTEMPT_STATUS_ERROR_AUTH_ERROR);
     }
     if !has_room(board, parts.payload.len()) {
