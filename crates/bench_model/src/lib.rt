@@ -41,8 +41,8 @@ pub use file_names::{is_file_name, is_same_name};
 pub use flash::{BenchState, Flash};
 pub use limits::{
     BANK_BASE, MAX_BANK, MAX_CAPACITIES, MAX_CAPACITY, MAX_DEVICE_NAME, MAX_DEVICES, MAX_DIGESTS,
-    MAX_FW_TYPE, MAX_INSTANCE, MAX_STORE, MAX_TWO_BANK_CAPACITIES, MIN_BANK, MIN_CAPACITY, MIN_STORE,
-    RESULT_ROOM,
+    MAX_FW_TYPE, MAX_INSTANCE, MAX_STORE, MAX_TWO_BANK_CAPACITIES, MIN_BANK, MIN_CAPACITY,
+    MIN_STORE, RESULT_ROOM,
 };
 pub use listing::{Listed, Listing};
 pub use names::is_device_name;

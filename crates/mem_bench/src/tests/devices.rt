@@ -31,6 +31,16 @@ fn end(rt: &impl Abort, bench: &mut MemBench) -> Result<(), Failed> {
     bench.end(0)
 }
 
+/// Reads the first bytes of a region.
+fn front(rt: &impl Abort, bench: &mut MemBench, region: u32, out: &mut [u8]) -> Result<(), Failed> {
+    assert!(rt; region < bench.regions(), "a region");
+    assert!(rt;
+        out.len() <= bench.size(region) as usize,
+        "within the region"
+    );
+    Flash::read(bench, region, 0, out)
+}
+
 /// How often device 0 was begun.
 fn begun(bench: &MemBench) -> Option<usize> {
     bench.devices.get(0).map(|tickets| tickets.len())
@@ -79,7 +89,7 @@ fn a_device_leaves_the_factory_sealed(rt: HostRuntime) -> Result<(), Fail> {
     assert!(rt; bench.regions() > DEVICE, "a device");
     assert_eq!(rt; bench.size(DEVICE), 8_256);
     let mut head = [0; 66];
-    assert_eq!(rt; Flash::read(&mut bench, DEVICE, 0, &mut head), Ok(()));
+    assert_eq!(rt; front(&rt, &mut bench, DEVICE, &mut head), Ok(()));
     let sealed = [
         0x5A, 0x43, 0x55, 0x53, 2, 0, 0, 0, 255, 0, 0, 0, 0, 0, 0, 0, 0, 0, 0, 0, 0, 0, 0, 0, 2, 0,
         0, 0, 1, 0, 0, 0, 0, 0, 0, 0, 0, 0, 0, 0, 0, 0, 0, 0, 0, 0, 0, 0, 0, 0, 0, 0, 0, 0, 0, 0,
@@ -101,7 +111,7 @@ fn bank_0_leaves_the_factory_with_an_open_log(rt: HostRuntime) -> Result<(), Fai
         "their sizes"
     );
     let mut head = [0; 17];
-    assert_eq!(rt; Flash::read(&mut bench, 0, 0, &mut head), Ok(()));
+    assert_eq!(rt; front(&rt, &mut bench, 0, &mut head), Ok(()));
     let open = [
         0x5A, 0x43, 0x55, 0x56, 2, 0, 0, 0, 1, 0, 0, 0, 0, 0, 0, 0, 0xFF,
     ];
@@ -110,7 +120,7 @@ fn bank_0_leaves_the_factory_with_an_open_log(rt: HostRuntime) -> Result<(), Fai
         "the head of the bank, and a blank place behind it"
     );
     let mut blank = [0; 2];
-    assert_eq!(rt; Flash::read(&mut bench, 1, 0, &mut blank), Ok(()));
+    assert_eq!(rt; front(&rt, &mut bench, 1, &mut blank), Ok(()));
     assert!(rt; blank == [0xFF; 2], "bank 1 is blank");
     Ok(())
 }
