@@ -1,7 +1,7 @@
 -- What writes and syncs leave of the images of a region.
-use Rattle.std.proofs.Common.{◌≡◌, ◌⊎◌, inl, inr, ℕ, ◌+◌, ◌-◌, ◌<◌, ◌≤◌, min, List, length, get_or, take, drop, refl, sym, ◌∙◌, ap, arith, length-take, length-drop, Bool, true, false}
+use Rattle.std.proofs.Common.{◌≡◌, inl, inr, ℕ, ◌+◌, ◌<◌, List, length, get_or, take, drop, refl, sym, ◌∙◌, ap, arith, length-take, length-drop, true, false}
 use Rattle.std.proofs.lemmas.List.{ext_get_or, get_or-take, get_or-drop}
-use Rattle.bench_model.specs.Regions.{Region, AgreesOutside, IsOutside, IsImage, IsStable, KeepsImages, Syncs, Writes}
+use Rattle.bench_model.specs.Regions.{Region, AgreesOutside, IsOutside, IsImage, IsStable, Syncs, Writes}
 
 -- what stands before a range stays
 pub agrees_front : (at n : ℕ) (old new : List ℕ) → AgreesOutside at n old new → take at new ≡ take at old

@@ -1,7 +1,6 @@
 -- What a board leaves the factory with, byte by byte. Of a region all bytes that no head names are 0xFF.
-use Rattle.std.specs.Prelude.{◌≡◌, ℕ, ◌+◌, ◌-◌, ◌*◌, Bool, false, List, [], ◌∷◌, ◌++◌, length, map, replicate, get_or, Option, None, option_map, if◌then◌else◌}
+use Rattle.std.specs.Prelude.{◌≡◌, ℕ, ◌+◌, ◌-◌, ◌*◌, Bool, false, List, [], ◌∷◌, ◌++◌, length, map, replicate, get_or, None, option_map, if◌then◌else◌}
 use Rattle.cu_base.specs.Fields.{bytes_of}
-use Rattle.bench_model.specs.declared.orders.Order.{Order}
 use Rattle.bench_model.specs.declared.orders.Order.TheVariants.{LayOut}
 use Rattle.bench_model.specs.declared.outside_limits.TheConstants.{ORDER_ROOM, SLOT_LEAD}
 use Rattle.bench_model.specs.Bench.{BenchValue, Contents, with_order}

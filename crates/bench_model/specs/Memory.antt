@@ -1,6 +1,6 @@
 -- Physical memory: segments that were laid one after another, of which a later one hides earlier ones. The address 2^64 - 1
 -- is never there.
-use Rattle.std.specs.Prelude.{◌≡◌, ℕ, ◌+◌, ◌-◌, ◌^◌, ◌<◌, ◌≤◌, ◌&&◌, ◌||◌, Bool, nat_le, nat_lt, List, [], ◌∷◌, ◌++◌, length, get_or, sum_by, fold, All, Option, Some, None, Result, Ok, Err, if◌then◌else◌}
+use Rattle.std.specs.Prelude.{◌≡◌, ℕ, ◌+◌, ◌-◌, ◌^◌, ◌<◌, ◌≤◌, ◌&&◌, ◌||◌, nat_le, nat_lt, List, [], ◌∷◌, ◌++◌, length, get_or, sum_by, fold, All, Option, Some, None, Result, Ok, Err, if◌then◌else◌}
 use Rattle.std.specs.Option.{option_or}
 use Rattle.bench_model.specs.declared.faults.LayFault.{LayFault}
 use Rattle.bench_model.specs.declared.faults.LayFault.TheVariants.{Wraps, Full, Memory}

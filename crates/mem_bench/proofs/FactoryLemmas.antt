@@ -1,8 +1,7 @@
 -- The contents of a bench that was laid out.
-use Rattle.std.proofs.Common.{◌≡◌, ℕ, zero, suc, ◌+◌, ◌<◌, Bool, true, false, List, [], ◌∷◌, ◌++◌, length, get_or, map, take, replicate, None, refl, sym, ◌∙◌, ap, append_assoc}
+use Rattle.std.proofs.Common.{◌≡◌, ℕ, zero, suc, ◌+◌, ◌<◌, true, false, List, [], ◌∷◌, ◌++◌, length, get_or, map, take, replicate, None, refl, sym, ◌∙◌, ap, append_assoc}
 use Rattle.std.proofs.lemmas.List.{length-map, map_push, take_more}
 use Rattle.std.proofs.Math.ListN.{get_or-map}
-use Rattle.cu_base.specs.declared.ticket.Ticket.{Ticket}
 use Rattle.bench_model.specs.declared.segment.Segment.{Segment}
 use Rattle.bench_model.specs.Bench.{Contents}
 use Rattle.bench_model.specs.Boards.{BoardValue}

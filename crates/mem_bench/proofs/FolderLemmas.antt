@@ -1,9 +1,8 @@
 -- Folders after a put and a remove, and fronts of their listings.
-use Rattle.std.proofs.Common.{◌⊎◌, inl, inr, ◌≡◌, ◌≢◌, ℕ, ◌+◌, ◌-◌, ◌^◌, ◌<◌, ◌≤◌, ◌==◌, ◌&&◌, ◌||◌, Bool, true, false, not, nat_le, nat_lt, List, [], ◌∷◌, ◌++◌, length, map, take, get_or, filter, fold, sum_by, All, AllPairs, IsTrue, refl, ap, sym, ◌∙◌, subst, arith, length-append}
+use Rattle.std.proofs.Common.{◌⊎◌, inl, inr, ◌≡◌, ◌≢◌, ℕ, ◌+◌, ◌-◌, ◌^◌, ◌<◌, ◌≤◌, ◌&&◌, ◌||◌, Bool, true, false, not, nat_le, nat_lt, List, [], ◌∷◌, ◌++◌, length, take, get_or, filter, fold, sum_by, AllPairs, IsTrue, refl, ap, sym, ◌∙◌, subst, arith, length-append}
 use Rattle.std.specs.List.{list_any}
-use Rattle.std.specs.Str.{bytes_eq, str_to_ascii_uppercase}
+use Rattle.std.specs.Str.{str_to_ascii_uppercase}
 use Rattle.std.proofs.lemmas.Bool.{false≢true, cases_Bool, leb-false, ltb-false}
-use Rattle.std.proofs.lemmas.Bool.Decides.{nat_tests}
 use Rattle.std.proofs.lemmas.List.{get_or-map, get_or-take, length-map, length-take, map-append, take_more}
 use Rattle.std.proofs.lemmas.List.Elements.{All-filter, All-map, All-push, All-take, filter_passes}
 use Rattle.std.proofs.lemmas.List.Filters.{length-filter_both, sum_by-filter_both}
@@ -12,7 +11,7 @@ use Rattle.std.proofs.lemmas.List.Quantifiers.{all_pairs_push}
 use Rattle.std.proofs.lemmas.List.Sums.{sum_by-append, sum_by-take-le}
 use Rattle.std.proofs.lemmas.Slice.Eq.{bytes_eq-Decides}
 use Rattle.bench_model.specs.declared.outside_limits.TheConstants.{MAX_FILE_BYTES, MAX_FILES, MAX_FOLDER_BYTES}
-use Rattle.bench_model.specs.Files.{File, FolderValue, ListedFile, IsListing, IsListedFile, HaveOtherNames, HaveOtherSerials, bytes_in, has_file, is_file_name, is_folder_full, is_same_name, listed, others_than, with_put, without_serial}
+use Rattle.bench_model.specs.Files.{File, FolderValue, ListedFile, IsListing, IsListedFile, HaveOtherNames, HaveOtherSerials, bytes_in, has_file, is_file_name, is_folder_full, is_same_name, listed, others_than, with_put}
 use Rattle.mem_bench.specs.Folders.{IsFile, IsFolder, DifferInName, DifferInSerial}
 
 -- a sum over a part is at most the whole

@@ -2,8 +2,7 @@
 use Rattle.std.proofs.Common.{◌≡◌, ◌≢◌, inl, inr, ℕ, ◌+◌, ◌<◌, ◌≤◌, Bool, true, false, List, [], ◌∷◌, ◌++◌, length, get_or, take, drop, replicate, refl, sym, ◌∙◌, ap, subst, arith, length-append, length-take, length-drop, append_assoc}
 use Rattle.std.specs.Prelude.{slice_set}
 use Rattle.std.proofs.lemmas.List.{length-replicate, get_or_read, get_or-set_same, take_at, drop_at, places}
-use Rattle.cu_base.specs.Fields.{field}
-use Rattle.bench_model.specs.Regions.{Region, AgreesOutside, IsOutside, Writes}
+use Rattle.bench_model.specs.Regions.{IsOutside, Writes}
 use Rattle.mem_bench.specs.Regions.{RegionValue, IsRegion, no_region, overlaid, told_region}
 
 module _ {A : Type 0} (old : List A) (at : ℕ) (items : List A) (fits : at + length items ≤ length old) where

@@ -1,6 +1,5 @@
 -- A bench on which nothing fails.
-use Rattle.std.specs.Prelude.{◌≡◌, ℕ, Option, Some}
-use Rattle.bench_model.specs.declared.plan.Plan.{Plan}
+use Rattle.std.specs.Prelude.{◌≡◌}
 use Rattle.bench_model.specs.Plans.{no_plan}
 use Rattle.mem_bench.specs.declared.clerk.Clerk.{Clerk}
 

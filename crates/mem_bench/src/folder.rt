@@ -1,6 +1,6 @@
 ghost use Rattle.std.specs.Prelude.{◌≡◌, ◌+◌, ◌≤◌, [], length, IsTrue, IfOk, OnErr, false};
 ghost use Rattle.cu_base.specs.Fields.{field};
-ghost use Rattle.bench_model.specs.Files.{file_bytes, is_file_name, is_folder_full, listed, with_put, without_serial};
+ghost use Rattle.bench_model.specs.Files.{file_bytes, has_serial, is_file_name, is_folder_full, listed, with_put, without_serial};
 
 use crate::stored_file::{StoredFile, bytes_of_others, drop_name, drop_serial, file_of, has_file};
 use bench_model::{Listed, Listing, MAX_FILE_BYTES, MAX_FILES, MAX_FOLDER_BYTES};
@@ -46,6 +46,13 @@ impl Folder {
             listing.push(listed(alloc, file)?)?;
         }
         Ok(listing)
+    }
+
+    /// Whether a file has this serial.
+    pub fn has_serial(&self, serial: u64) -> bool
+        ensures { result ≡ has_serial serial self.now.files }
+    {
+        self.files.iter().any(|file| file.serial == serial)
     }
 
     /// Reads bytes of the file of a serial, from a place on.

@@ -1,5 +1,8 @@
 //! Cases worked by hand. A bank reads 0xFF where nothing was written.
 
+mod devices;
+mod folder;
+
 use crate::MemBench;
 use bench_model::{Bench, Board, Choice, Device, Devices, Digests, Flash, is_device_name};
 use cu_base::{Failed, Guid, NoMemory, Text};

@@ -1,4 +1,4 @@
-ghost use Rattle.std.specs.Prelude.{◌≡◌, ◌-◌, ◌≤◌, [], ◌∷◌, ◌++◌, max, OnOk, OnErr, IsOk};
+ghost use Rattle.std.specs.Prelude.{◌≡◌, ◌-◌, ◌≤◌, [], ◌∷◌, ◌++◌, length, max, OnOk, OnErr, IsOk};
 
 use cu_base::{Items, NoMemory, Ticket};
 use std::alloc::Global;
@@ -32,6 +32,14 @@ impl Tickets {
             begun: Items::new(alloc),
             spare: 0,
         }
+    }
+
+    /// How many were begun.
+    #[cfg(test)]
+    pub fn len(&self) -> usize
+        ensures { result ≡ length self.now.begun }
+    {
+        self.begun.len()
     }
 
     /// Makes room for one more.

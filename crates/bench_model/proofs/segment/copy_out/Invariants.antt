@@ -1,4 +1,4 @@
-use Rattle.std.proofs.Common.{◌≡◌, ℕ, ◌+◌, ◌<◌, Some, length, get_or}
+use Rattle.std.proofs.Common.{◌≡◌, ℕ, ◌+◌, ◌<◌, Some, get_or}
 use Rattle.bench_model.specs.Memory.{byte_at}
 use Rattle.bench_model.proofs.segment.copy_out.Given as goal
 

@@ -1,5 +1,5 @@
-use Rattle.std.proofs.Common.{List, ◌≡◌, ◌++◌, ◌∷◌, [], map, take, ◌∙◌, ap, subst, sym}
-use Rattle.bench_model.specs.Devices.{DeviceValue, IsDevice}
+use Rattle.std.proofs.Common.{List, ◌≡◌, ◌++◌, ◌∷◌, [], ◌∙◌, ap, subst, sym}
+use Rattle.bench_model.specs.Devices.{IsDevice}
 use Rattle.bench_model.specs.Factory.{first_device}
 use Rattle.mem_bench.specs.Regions.{RegionValue, stable_region}
 use Rattle.mem_bench.proofs.FactoryLemmas.{regions_more}

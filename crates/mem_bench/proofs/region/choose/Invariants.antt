@@ -1,4 +1,4 @@
-use Rattle.std.proofs.Common.{◌≡◌, ℕ, ◌<◌, ◌≤◌, false, length, get_or, if◌then◌else◌}
+use Rattle.std.proofs.Common.{◌≡◌, ℕ, ◌<◌, ◌≤◌, false, get_or, if◌then◌else◌}
 use Rattle.mem_bench.specs.Regions.{byte_after}
 use Rattle.mem_bench.proofs.region.choose.Given as goal
 

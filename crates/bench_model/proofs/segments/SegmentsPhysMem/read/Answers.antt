@@ -1,4 +1,4 @@
-use Rattle.std.proofs.Common.{◌<◌, ◌-◌, ◌^◌, arith}
+use Rattle.std.proofs.Common.{arith}
 use Rattle.bench_model.proofs.MemoryLemmas.{lacking_last}
 use Rattle.bench_model.proofs.segments.SegmentsPhysMem.read.Goals as goal
 

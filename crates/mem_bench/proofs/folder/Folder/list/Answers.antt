@@ -1,4 +1,4 @@
-use Rattle.std.proofs.Common.{◌≡◌, ◌+◌, ◌++◌, ◌∷◌, [], take, sym, ◌∙◌, ap, subst}
+use Rattle.std.proofs.Common.{◌≡◌, ◌+◌, ◌++◌, ◌∷◌, [], take}
 use Rattle.bench_model.specs.Files.{IsListing, listed}
 use Rattle.mem_bench.proofs.FolderLemmas.{IsListing-front, listed_more, tell}
 use Rattle.mem_bench.proofs.folder.Folder.list.Goals as goal

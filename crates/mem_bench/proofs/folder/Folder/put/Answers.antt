@@ -1,4 +1,3 @@
-use Rattle.std.proofs.Common.{◌≡◌}
 use Rattle.mem_bench.proofs.FolderLemmas.{IsFolder-put}
 use Rattle.mem_bench.proofs.folder.Folder.put.Goals as goal
 

@@ -1,4 +1,4 @@
-use Rattle.std.proofs.Common.{◌≡◌, rules}
+use Rattle.std.proofs.Common.{rules}
 use Rattle.mem_bench.proofs.FactoryLemmas.{laid_contents}
 use Rattle.mem_bench.proofs.orders.MemBenchBench.lay_out.Goals as goal
 
