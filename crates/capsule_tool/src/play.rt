@@ -39,8 +39,7 @@ pub fn play<I: Inputs>(
     let script = take_script(alloc, script, inputs)?;
     let names = script_inputs(alloc, &script)?;
     let loaded = take_inputs(alloc, &board, names.as_slice(), inputs)?;
-    let found = played(alloc, &board, &script, &loaded)?;
-    Ok(found)
+    Ok(played(alloc, &board, &script, &loaded)?)
 }
 
 /// Plays over the inputs that were read.

@@ -99,7 +99,7 @@ fn scan<S: Source>(
 ) -> Result<(), ScanStop>
     requires begun { stream.old.place ≡ 0 }
     ensures scan { ScansFile head.new stream.old stream.new result }
-    ensures later { stream.old.faults ≤ stream.new.faults }
+    ensures counts { stream.old.faults ≤ stream.new.faults }
 {
     stream.fill(head)?;
     match CapsuleHeader::read(head) {
@@ -121,7 +121,7 @@ fn scan_rest<S: Source>(
     ensures scan { Scans (header.now.image_size - 28)
         (λ rest. fmp_rows (drop (header.now.header_size - 28) rest) header.now.header_size) []
         stream.old stream.new result }
-    ensures later { stream.old.faults ≤ stream.new.faults }
+    ensures counts { stream.old.faults ≤ stream.new.faults }
 {
     stream.pass((header.header_size - CAPSULE_HEADER_BYTES) as u64)?;
     scan_body(

@@ -63,11 +63,11 @@ returns-in_err-loaded-clause-steps g c =
     (c.as_slice.ensures ∙ c.in_ok-names.ensures.value)
     (rw p.2 (c.in_err-loaded.ensures.steps events))))
 
-pub returns-in_err-found-clause-steps : goal.returns-in_err-found-clause-steps
-returns-in_err-found-clause-steps g c =
+pub returns-in_err-played-clause-steps : goal.returns-in_err-played-clause-steps
+returns-in_err-played-clause-steps g c =
     let seen = g.I.Inputs.seen in
     let events = c.in_ok-script.script.items in
-    let is : c.from_residual-in_err-found.result ≡ Err Memory = search rules in
+    let is : c.from_residual-in_err-played.result ≡ Err Memory = search rules in
     let comes = then_comes _ (seen c.args.inputs.now) _ (seen c.take_board.new.inputs) _
     (seen c.take_script.new.inputs) (c.in_ok-board.ensures.steps c.args.script.now)
     c.take_board.ensures.frame.named (c.in_ok-script.ensures.steps c.in_ok-board.board) in
@@ -86,7 +86,7 @@ returns-clause-steps g c =
     let comes = then_comes _ (seen c.args.inputs.now) _ (seen c.take_board.new.inputs) _
     (seen c.take_script.new.inputs) (c.in_ok-board.ensures.steps c.args.script.now)
     c.take_board.ensures.frame.named (c.in_ok-script.ensures.steps c.in_ok-board.board) in
-    finds_as _ _ _ _ _ _ c.in_ok-found.ensures
+    finds_as _ _ _ _ _ _ c.in_ok-played.ensures
     (then_comes _ (seen c.args.inputs.now) _ (seen c.take_script.new.inputs) _
     (seen c.take_inputs.new.inputs) comes
     (c.take_script.ensures.frame.named ∙ c.take_board.ensures.frame.named)

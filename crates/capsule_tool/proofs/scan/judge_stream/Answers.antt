@@ -28,7 +28,7 @@ returns-in-Err-Ended-clause-judged g c = judged_cut _ _ _ _ _ _ c.requires.begun
 
 pub returns-in-Err-Ended-clause-cause : goal.returns-in-Err-Ended-clause-cause
 returns-in-Err-Ended-clause-cause g c = record {
-  later = c.scan.ensures.later;
+  later = c.scan.ensures.counts;
   failed =
       λ is. absurd (no_error _ _ is);
 }
