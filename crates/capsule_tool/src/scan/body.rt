@@ -32,7 +32,7 @@ pub fn scan_body<S: Source>(
     requires small { at + size < 2 ^ 31 }
     requires place { stream.old.place + size < 2 ^ 63 }
     ensures scan { Scans size (λ body. fmp_rows body at) [] stream.old stream.new result }
-    ensures later { stream.old.faults ≤ stream.new.faults }
+    ensures counts { stream.old.faults ≤ stream.new.faults }
 {
     let front = scan_front(alloc, stream, size, at)?;
     check_offsets(front.as_slice(), size, at)?;
@@ -55,7 +55,7 @@ fn scan_front<S: Source>(
         → first_refusal (fmp_front_rows body at) ≡ None) }
     ensures stop { IfErr result (λ stop. Scans {X = List ℕ} size (λ body. fmp_front_rows body at) []
         stream.old stream.new (Err stop)) }
-    ensures later { stream.old.faults ≤ stream.new.faults }
+    ensures counts { stream.old.faults ≤ stream.new.faults }
 {
     let mut head = [0u8; FMP_HEADER_BYTES as usize];
     let head = &mut head[..FMP_HEADER_BYTES.min(size) as usize];
@@ -77,7 +77,7 @@ fn next_bytes<S: Source>(
     ensures ok { IfOk result (λ bytes. (length bytes.items ≡ size)
         × Goes bytes.items stream.old stream.new) }
     ensures stop { IfErr result (λ stop. IsStop size stream.old stream.new stop) }
-    ensures later { stream.old.faults ≤ stream.new.faults }
+    ensures counts { stream.old.faults ≤ stream.new.faults }
 {
     let Ok(mut bytes) = Vec::from_elem(alloc, 0u8, size) else {
         return Err(ScanStop::Memory);
@@ -100,7 +100,7 @@ fn scan_images<S: Source>(
     requires places { AreBounds front.now size }
     ensures scan { Scans size (λ body. all_image_rows body at) front.now stream.old stream.new
         result }
-    ensures later { stream.old.faults ≤ stream.new.faults }
+    ensures counts { stream.old.faults ≤ stream.new.faults }
 {
     let drivers = driver_count(front) as u32;
     let images = image_count(front) as u32;
@@ -125,7 +125,7 @@ fn scan_image<S: Source>(
     requires near { ahead < 2 ^ 31 }
     requires place { stream.old.place + ahead + size < 2 ^ 63 }
     ensures scan { ScansImage ahead size at stream.old stream.new result }
-    ensures later { stream.old.faults ≤ stream.new.faults }
+    ensures counts { stream.old.faults ≤ stream.new.faults }
 {
     let there = size.min(MAX_IMAGE_HEADER_BYTES);
     let mut head = [0u8; MAX_IMAGE_HEADER_BYTES as usize];
