@@ -1,5 +1,7 @@
 -- What a bench is, as one record, and what its calls may change of it: the disk model.
-use Rattle.std.specs.Prelude.{◌≡◌, ◌≢◌, ◌⊎◌, ℕ, ◌+◌, ◌-◌, ◌^◌, ◌<◌, ◌≤◌, ◌==◌, ◌||◌, min, Bool, true, false, List, [], ◌∷◌, ◌++◌, length, IsTrue, Option, Some, None, IfSome, option_map, Result, Ok, Err, is_err, if◌then◌else◌}
+use Rattle.std.specs.Prelude.{◌≡◌, ◌≢◌, ◌⊎◌, ℕ, ◌+◌, ◌-◌, ◌^◌, ◌<◌, ◌≤◌, ◌==◌, ◌||◌, min, Bool}
+use Rattle.std.specs.Prelude.{true, false, List, [], ◌∷◌, ◌++◌, length, IsTrue, Option, Some, None}
+use Rattle.std.specs.Prelude.{IfSome, option_map, Result, Ok, Err, is_err, if◌then◌else◌}
 use Rattle.cu_base.specs.Causes.{HasCause, HasCauseOf}
 use Rattle.cu_base.specs.Fields.{field}
 use Rattle.cu_base.specs.declared.faults.Failed.{Failed}
@@ -16,10 +18,13 @@ use Rattle.bench_model.specs.declared.orders.Ordered.{Ordered}
 use Rattle.bench_model.specs.declared.plan.Call.{Call}
 use Rattle.bench_model.specs.declared.plan.Plan.{Plan}
 use Rattle.bench_model.specs.declared.segment.Segment.{Segment}
-use Rattle.bench_model.specs.Files.{FolderValue, ListedFile, listed, has_serial, file_bytes, is_folder_full, with_put, without_serial}
+use Rattle.bench_model.specs.Files.{FolderValue, ListedFile, listed, has_serial, file_bytes}
+use Rattle.bench_model.specs.Files.{is_folder_full, with_put, without_serial}
 use Rattle.bench_model.specs.Memory.{lay_refusal, with_segment}
-use Rattle.bench_model.specs.Plans.{no_plan, is_off, is_struck, strike_of, after_call, with_arm, with_fail}
-use Rattle.bench_model.specs.Regions.{Region, IsImage, IsStable, KeepsImages, ReadsAs, Syncs, Writes}
+use Rattle.bench_model.specs.Plans.{no_plan, is_off, is_struck, strike_of, after_call, with_arm}
+use Rattle.bench_model.specs.Plans.{with_fail}
+use Rattle.bench_model.specs.Regions.{Region, IsImage, IsStable, KeepsImages, ReadsAs, Syncs}
+use Rattle.bench_model.specs.Regions.{Writes}
 
 -- what stands beside the regions: no write, read or sync changes it
 pub record Rest : Type 0 where
@@ -36,7 +41,8 @@ pub record Contents : Type 0 where
   pub dirty : ℕ → ℕ → Bool  -- whether a place of a region is dirty
   pub rest : Rest
 
--- the orders that were given, each with the counts of faults as they stood, and how many more need no memory
+-- the orders that were given, each with the counts of faults as they stood, and how many more need
+-- no memory
 pub record Orders : Type 0 where
   pub given : List Ordered
   pub room : ℕ
@@ -87,7 +93,8 @@ RegionReads region at bytes b = ReadsAs at bytes (region_at b.contents region)
 
 -- of the region a write changed this range alone
 abbrev pub RegionWrites : ℕ → ℕ → ℕ → BenchValue → BenchValue → Type 0
-RegionWrites region at n old new = Writes at n (region_at old.contents region) (region_at new.contents region)
+RegionWrites region at n old new =
+    Writes at n (region_at old.contents region) (region_at new.contents region)
 
 -- a sync of the region changed no byte of it
 abbrev pub RegionSyncs : ℕ → BenchValue → BenchValue → Type 0
@@ -125,7 +132,12 @@ begun_with begun device ticket d = if d == device then begun d ++ ticket ∷ [] 
 -- the contents once a device was begun: the ticket is its last, and it is the open device
 abbrev pub after_begin : Contents → ℕ → Ticket → Contents
 after_begin s device ticket =
-    record s { rest = record s.rest { begun = begun_with s.rest.begun device ticket; open_device = Some device } }
+    record s {
+      rest = record s.rest {
+        begun = begun_with s.rest.begun device ticket;
+        open_device = Some device;
+      };
+    }
 
 -- the contents once a device was ended: none is open
 abbrev pub after_end : Contents → Contents
@@ -182,14 +194,18 @@ VolumeCause old new result = HasCause old.counts.volume_faults new.counts.volume
 
 -- the same of a call of the volume with other answers
 abbrev pub VolumeCauseOf : {T : Type 0} → BenchValue → BenchValue → Result T VolumeFault → Type 0
-VolumeCauseOf old new result = HasCauseOf volume.Failed old.counts.volume_faults new.counts.volume_faults result
+VolumeCauseOf old new result =
+    HasCauseOf volume.Failed old.counts.volume_faults new.counts.volume_faults result
 
--- where the plan is told: the call fails exactly where the plan strikes it, the count of faults rises by one there and
--- nowhere else, the plan goes on by this call, and while power is off nothing else happens
-pub record Follows (faults : Counts → ℕ) (call : Call) (failed : Bool) (old new : BenchValue) : Type 0 where
+-- where the plan is told: the call fails exactly where the plan strikes it, the count of faults
+-- rises by one there and nowhere else, the plan goes on by this call, and while power is off
+-- nothing else happens
+pub record Follows (faults : Counts → ℕ) (call : Call) (failed : Bool)
+    (old new : BenchValue) : Type 0 where
   pub planned : new.plan ≡ option_map (after_call call) old.plan
   pub struck : IfSome old.plan (λ p. failed ≡ is_struck (strike_of call p))
-  pub counted : IfSome old.plan (λ p. faults new.counts ≡ (if failed then next_count (faults old.counts) else faults old.counts))
+  pub counted : IfSome old.plan (λ p. faults new.counts
+      ≡ (if failed then next_count (faults old.counts) else faults old.counts))
   pub idle : IfSome old.plan (λ p. IsTrue (is_off p) → new.contents ≡ old.contents)
 
 -- the answer tells a fault of the volume
@@ -208,7 +224,8 @@ abbrev pub VolumeFollows : {T : Type 0} → Call → Result T Failed → BenchVa
 VolumeFollows call result old new = Follows (λ c. c.volume_faults) call (is_err result) old new
 
 -- the same for a call of the volume with other answers
-abbrev pub VolumeFollowsOf : {T : Type 0} → Call → Result T VolumeFault → BenchValue → BenchValue → Type 0
+abbrev pub VolumeFollowsOf : {T : Type 0} → Call → Result T VolumeFault → BenchValue → BenchValue
+    → Type 0
 VolumeFollowsOf call result old new = Follows (λ c. c.volume_faults) call (is_failed result) old new
 
 -- a file has this serial
@@ -222,7 +239,8 @@ IsInFile serial at n b = at + n ≤ length (file_bytes serial b.contents.rest.fo
 -- the file reads as these bytes from `at` on, where it is told
 abbrev pub FileReads : ℕ → ℕ → List ℕ → BenchValue → Type 0
 FileReads serial at bytes b =
-    b.contents.told ≡ true → field (file_bytes serial b.contents.rest.folder.files) at (length bytes) ≡ bytes
+    b.contents.told ≡ true → field (file_bytes serial b.contents.rest.folder.files) at
+    (length bytes) ≡ bytes
 
 -- a listing tells the files of the folder
 abbrev pub Lists : List ListedFile → BenchValue → Type 0
@@ -245,12 +263,13 @@ pub record Puts (name bytes : List ℕ) (serial : ℕ) (old new : BenchValue) : 
   pub drawn : serial ≡ old.contents.rest.folder.last_serial + 1
   pub contents : new.contents ≡ after_put old.contents name bytes
 
--- what a put that was not done leaves, by its answer: after a failure it was done wholly or not at all, and it was not done
--- where it would have been refused
+-- what a put that was not done leaves, by its answer: after a failure it was done wholly or not at
+-- all, and it was not done where it would have been refused
 abbrev pub PutStops : List ℕ → List ℕ → BenchValue → BenchValue → VolumeFault → Type 0
 PutStops name bytes old new volume.Failed =
     (new.contents ≡ old.contents)
-    ⊎ ((is_full name (length bytes) old ≡ false) × (new.contents ≡ after_put old.contents name bytes))
+    ⊎ ((is_full name (length bytes) old ≡ false)
+    × (new.contents ≡ after_put old.contents name bytes))
 PutStops name bytes old new Full = new.contents ≡ old.contents
 PutStops name bytes old new Memory = new.contents ≡ old.contents
 
@@ -272,7 +291,10 @@ RemoveStops serial old new = (new.contents ≡ old.contents) ⊎ Removes serial 
 -- what a segment that was laid leaves
 abbrev pub Lays : ℕ → List ℕ → BenchValue → BenchValue → Type 0
 Lays at bytes old new =
-    new ≡ record old { contents = with_memory old.contents (with_segment old.contents.rest.memory at bytes) }
+    new ≡ record old {
+      contents = with_memory old.contents
+          (with_segment old.contents.rest.memory at bytes);
+    }
 
 -- why a segment is not laid into the memory of the bench
 abbrev pub laid_refusal : ℕ → ℕ → BenchValue → Option LayFault
@@ -285,7 +307,11 @@ HasOrderRoom b = 1 ≤ b.orders.room
 -- the orders with one more, which takes one place of the room
 abbrev pub with_order : Order → BenchValue → Orders
 with_order order b = record {
-  given = b.orders.given ++ record { order = order; flash_faults = b.counts.flash_faults; volume_faults = b.counts.volume_faults } ∷ [];
+  given = b.orders.given ++ record {
+    order = order;
+    flash_faults = b.counts.flash_faults;
+    volume_faults = b.counts.volume_faults;
+  } ∷ [];
   room = b.orders.room - 1;
 }
 
@@ -295,7 +321,8 @@ OrdersOnly order old new = new ≡ record old { orders = with_order order old; p
 
 -- the power cut is pending, or the order was kept alone
 abbrev pub ArmsPlan : ℕ → Choice → BenchValue → BenchValue → Type 0
-ArmsPlan after choice old new = (new.plan ≡ option_map (with_arm after choice) old.plan) ⊎ (new.plan ≡ old.plan)
+ArmsPlan after choice old new =
+    (new.plan ≡ option_map (with_arm after choice) old.plan) ⊎ (new.plan ≡ old.plan)
 
 -- the fault is pending, or the order was kept alone
 abbrev pub FailsPlan : ℕ → BenchValue → BenchValue → Type 0
@@ -306,14 +333,18 @@ abbrev pub is_cold : Bool → Option Plan → Bool
 is_cold cold None = cold
 is_cold cold (Some p) = cold || is_off p
 
--- what a cycle leaves: each image was an image before, no device is open, a cold one leaves nothing dirty and no memory, and
--- the plan is empty
+-- what a cycle leaves: each image was an image before, no device is open, a cold one leaves nothing
+-- dirty and no memory, and the plan is empty
 pub record Cycles (cold : Bool) (old new : BenchValue) : Type 0 where
   pub told : new.contents.told ≡ old.contents.told
   pub regions : new.contents.regions ≡ old.contents.regions
   pub images : (k : ℕ) → KeepsImages (region_at old.contents k) (region_at new.contents k)
   pub stable : IsTrue (is_cold cold old.plan) → (k at : ℕ) → new.contents.dirty k at ≡ false
-  pub rest : new.contents.rest ≡ record old.contents.rest { open_device = None; memory = (if is_cold cold old.plan then [] else old.contents.rest.memory) }
+  pub rest : new.contents.rest ≡ record old.contents.rest {
+    open_device = None;
+    memory = (if is_cold cold old.plan then [] else
+        old.contents.rest.memory);
+  }
   pub spare : new.spare ≡ old.spare
   pub orders : new.orders ≡ with_order (Cycle cold) old
   pub plan : new.plan ≡ option_map (λ p. no_plan) old.plan

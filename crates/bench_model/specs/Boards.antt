@@ -1,8 +1,10 @@
 -- What a board is.
 use Rattle.std.specs.Prelude.{ℕ, ◌+◌, ◌*◌, ◌≤◌, Bool, List, length, if◌then◌else◌}
 use Rattle.cu_base.specs.declared.digest.Digest.{Digest}
-use Rattle.bench_model.specs.declared.limits.TheConstants.{BANK_BASE, MAX_BANK, MAX_CAPACITIES, MAX_DEVICES, MAX_DIGESTS}
-use Rattle.bench_model.specs.declared.limits.TheConstants.{MAX_STORE, MAX_TWO_BANK_CAPACITIES, MIN_BANK, MIN_STORE, RESULT_ROOM}
+use Rattle.bench_model.specs.declared.limits.TheConstants.{BANK_BASE, MAX_BANK, MAX_CAPACITIES}
+use Rattle.bench_model.specs.declared.limits.TheConstants.{MAX_DEVICES, MAX_DIGESTS}
+use Rattle.bench_model.specs.declared.limits.TheConstants.{MAX_STORE, MAX_TWO_BANK_CAPACITIES}
+use Rattle.bench_model.specs.declared.limits.TheConstants.{MIN_BANK, MIN_STORE, RESULT_ROOM}
 use Rattle.bench_model.specs.Devices.{DeviceValue, AreDevices, capacity_of}
 
 -- the fields of a board, with no place for memory

@@ -1,8 +1,11 @@
 -- The folder of capsule files of a volume. Two names are one file where they differ in case alone.
-use Rattle.std.specs.Prelude.{◌≢◌, ℕ, ◌+◌, ◌-◌, ◌^◌, ◌≤◌, ◌==◌, ◌&&◌, ◌||◌, Bool, not, nat_le, nat_lt, List, [], ◌∷◌, ◌++◌, length, map, filter, find, sum_by, IsTrue, All, AllPairs, option_map, unwrap_or}
+use Rattle.std.specs.Prelude.{◌≢◌, ℕ, ◌+◌, ◌-◌, ◌^◌, ◌≤◌, ◌==◌, ◌&&◌, ◌||◌, Bool, not, nat_le}
+use Rattle.std.specs.Prelude.{nat_lt, List, [], ◌∷◌, ◌++◌, length, map, filter, find, sum_by}
+use Rattle.std.specs.Prelude.{IsTrue, All, AllPairs, option_map, unwrap_or}
 use Rattle.std.specs.List.{list_all, list_any}
 use Rattle.std.specs.Str.{bytes_eq, str_to_ascii_uppercase}
-use Rattle.bench_model.specs.declared.outside_limits.TheConstants.{MAX_FILE_BYTES, MAX_FILE_NAME, MAX_FILES, MAX_FOLDER_BYTES}
+use Rattle.bench_model.specs.declared.outside_limits.TheConstants.{MAX_FILE_BYTES, MAX_FILE_NAME}
+use Rattle.bench_model.specs.declared.outside_limits.TheConstants.{MAX_FILES, MAX_FOLDER_BYTES}
 use Rattle.bench_model.specs.Names.{is_name_byte}
 
 -- a file of the folder; its bytes never change under one serial
@@ -28,7 +31,8 @@ listed files = map (λ x. record { name = x.name; serial = x.serial; size = leng
 
 -- 1 to 40 of ASCII letters, digits, '.', '_' and '-'
 abbrev pub is_file_name : List ℕ → Bool
-is_file_name name = nat_le 1 (length name) && nat_le (length name) MAX_FILE_NAME && list_all is_name_byte name
+is_file_name name =
+    nat_le 1 (length name) && nat_le (length name) MAX_FILE_NAME && list_all is_name_byte name
 
 -- the names are those of one file
 abbrev pub is_same_name : List ℕ → List ℕ → Bool
@@ -44,7 +48,8 @@ has_serial serial files = list_any (λ x. x.serial == serial) files
 
 -- the bytes of the file of this serial, or none where there is none
 abbrev pub file_bytes : ℕ → List File → List ℕ
-file_bytes serial files = unwrap_or (option_map (λ x. x.bytes) (find (λ x. x.serial == serial) files)) []
+file_bytes serial files =
+    unwrap_or (option_map (λ x. x.bytes) (find (λ x. x.serial == serial) files)) []
 
 -- the files of all other names
 abbrev pub others_than : List ℕ → List File → List File
@@ -54,24 +59,27 @@ others_than name files = filter (λ x. not (is_same_name x.name name)) files
 abbrev pub bytes_in : List File → ℕ
 bytes_in files = sum_by (λ x. length x.bytes) files
 
--- the folder takes no further file of this name and size: 64 files are there and the name is new, or the bytes of all would
--- pass their limit, or no serial is left
+-- the folder takes no further file of this name and size: 64 files are there and the name is new,
+-- or the bytes of all would pass their limit, or no serial is left
 abbrev pub is_folder_full : FolderValue → List ℕ → ℕ → Bool
 is_folder_full folder name size =
     nat_le MAX_FILES (length folder.files) && not (has_file name folder.files)
     || nat_lt MAX_FOLDER_BYTES (bytes_in (others_than name folder.files) + size)
     || nat_le (2 ^ 64 - 1) folder.last_serial
 
--- the folder with a file put into it: it takes the place of one of the same name, and has the next serial
+-- the folder with a file put into it: it takes the place of one of the same name, and has the next
+-- serial
 abbrev pub with_put : FolderValue → List ℕ → List ℕ → FolderValue
 with_put folder name bytes = record {
-  files = others_than name folder.files ++ record { name = name; serial = folder.last_serial + 1; bytes = bytes } ∷ [];
+  files = others_than name folder.files
+      ++ record { name = name; serial = folder.last_serial + 1; bytes = bytes } ∷ [];
   last_serial = folder.last_serial + 1;
 }
 
 -- the folder without the file of this serial
 abbrev pub without_serial : FolderValue → ℕ → FolderValue
-without_serial folder serial = record folder { files = filter (λ x. not (x.serial == serial)) folder.files }
+without_serial folder serial =
+    record folder { files = filter (λ x. not (x.serial == serial)) folder.files }
 
 -- a file in a listing keeps the limits of names and sizes
 pub record IsListedFile (x : ListedFile) : Type 0 where

@@ -1,6 +1,8 @@
--- Physical memory: segments that were laid one after another, of which a later one hides earlier ones. The address 2^64 - 1
--- is never there.
-use Rattle.std.specs.Prelude.{◌≡◌, ℕ, ◌+◌, ◌-◌, ◌^◌, ◌<◌, ◌≤◌, ◌&&◌, ◌||◌, nat_le, nat_lt, List, [], ◌∷◌, ◌++◌, length, get_or, sum_by, fold, All, Option, Some, None, Result, Ok, Err, if◌then◌else◌}
+-- Physical memory: segments that were laid one after another, of which a later one hides earlier
+-- ones. The address 2^64 - 1 is never there.
+use Rattle.std.specs.Prelude.{◌≡◌, ℕ, ◌+◌, ◌-◌, ◌^◌, ◌<◌, ◌≤◌, ◌&&◌, ◌||◌, nat_le, nat_lt, List, []}
+use Rattle.std.specs.Prelude.{◌∷◌, ◌++◌, length, get_or, sum_by, fold, All, Option, Some, None}
+use Rattle.std.specs.Prelude.{Result, Ok, Err, if◌then◌else◌}
 use Rattle.std.specs.Option.{option_or}
 use Rattle.bench_model.specs.declared.faults.LayFault.{LayFault}
 use Rattle.bench_model.specs.declared.faults.LayFault.TheVariants.{Wraps, Full, Memory}
@@ -10,7 +12,8 @@ use Rattle.bench_model.specs.declared.segment.Segment.{Segment}
 -- the byte of a segment at an address, where the segment has one there
 abbrev pub byte_of : ℕ → Segment → Option ℕ
 byte_of address s =
-    if nat_le s.address address && nat_lt address (s.address + length s.bytes) then Some (get_or s.bytes (address - s.address) 0) else None
+    if nat_le s.address address && nat_lt address (s.address + length s.bytes) then Some
+    (get_or s.bytes (address - s.address) 0) else None
 
 -- the byte at an address: that of the last segment that has one there
 abbrev pub byte_at : List Segment → ℕ → Option ℕ
@@ -45,12 +48,13 @@ pub record IsMemory (memory : List Segment) : Type 0 where
 abbrev pub with_segment : List Segment → ℕ → List ℕ → List Segment
 with_segment memory address bytes = memory ++ record { address = address; bytes = bytes } ∷ []
 
--- why a segment of so many bytes is not laid: it would reach the last address, or the segments or their bytes are at their
--- limit
+-- why a segment of so many bytes is not laid: it would reach the last address, or the segments or
+-- their bytes are at their limit
 abbrev pub lay_refusal : List Segment → ℕ → ℕ → Option LayFault
 lay_refusal memory address size =
     if nat_lt (2 ^ 64 - 1) (address + size) then Some Wraps
-    else if nat_le MAX_SEGMENTS (length memory) || nat_lt MAX_MEMORY_BYTES (bytes_laid memory + size) then Some Full
+    else if nat_le MAX_SEGMENTS (length memory)
+    || nat_lt MAX_MEMORY_BYTES (bytes_laid memory + size) then Some Full
     else None
 
 -- the refusal that an answer tells; want of memory is none

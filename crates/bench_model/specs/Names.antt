@@ -10,8 +10,10 @@ is_between first last byte = nat_le first byte && nat_le byte last
 -- A to Z, a to z, 0 to 9, '.', '_' or '-'
 abbrev pub is_name_byte : ℕ → Bool
 is_name_byte byte =
-    is_between 65 90 byte || is_between 97 122 byte || is_between 48 57 byte || byte == 46 || byte == 95 || byte == 45
+    is_between 65 90 byte || is_between 97 122 byte || is_between 48 57 byte || byte == 46
+    || byte == 95 || byte == 45
 
 -- 1 to 16 bytes that may stand in a name
 abbrev pub is_device_name : List ℕ → Bool
-is_device_name name = nat_le 1 (length name) && nat_le (length name) MAX_DEVICE_NAME && list_all is_name_byte name
+is_device_name name =
+    nat_le 1 (length name) && nat_le (length name) MAX_DEVICE_NAME && list_all is_name_byte name

@@ -1,6 +1,7 @@
--- The plan of faults of a bench: whether power is off, the power cut to come and the fault to come; which call they strike,
--- and what a call leaves of the plan.
-use Rattle.std.specs.Prelude.{ℕ, ◌-◌, ◌==◌, Bool, true, false, nat_le, Option, Some, None, is_some, if◌then◌else◌}
+-- The plan of faults of a bench: whether power is off, the power cut to come and the fault to come;
+-- which call they strike, and what a call leaves of the plan.
+use Rattle.std.specs.Prelude.{ℕ, ◌-◌, ◌==◌, Bool, true, false, nat_le, Option, Some, None, is_some}
+use Rattle.std.specs.Prelude.{if◌then◌else◌}
 use Rattle.bench_model.specs.declared.choice.Choice.{Choice}
 use Rattle.bench_model.specs.declared.plan.Armed.{Armed}
 use Rattle.bench_model.specs.declared.plan.Call.{Call}
@@ -28,9 +29,11 @@ cut_or Look armed other = other
 cut_or Step None other = other
 cut_or Step (Some a) other = if a.after == 0 then Cut a.choice else other
 
--- what strikes a call: nothing is counted while power is off, and where a cut and a fault strike one call, it is the cut
+-- what strikes a call: nothing is counted while power is off, and where a cut and a fault strike
+-- one call, it is the cut
 abbrev pub strike_of : Call → Plan → Strike
-strike_of call p = if is_off p then Off else cut_or call p.armed (if strikes_next p.failing then Fault else Passes)
+strike_of call p =
+    if is_off p then Off else cut_or call p.armed (if strikes_next p.failing then Fault else Passes)
 
 -- the call answers Failed
 abbrev pub is_struck : Strike → Bool
@@ -67,7 +70,11 @@ failing_after (Some n) = if nat_le n 1 then None else Some (n - 1)
 abbrev pub after_call : Call → Plan → Plan
 after_call call p =
     if is_off p then p
-    else record { off = cut_now call p.armed; armed = armed_after call p.armed; failing = failing_after p.failing }
+    else record {
+      off = cut_now call p.armed;
+      armed = armed_after call p.armed;
+      failing = failing_after p.failing;
+    }
 
 -- the plan with a power cut to come, in place of one that is pending
 abbrev pub with_arm : ℕ → Choice → Plan → Plan

@@ -1,9 +1,10 @@
--- A region of a flash: what a read gives, and what a power cut may leave. No list of one region speaks of another.
+-- A region of a flash: what a read gives, and what a power cut may leave. No list of one region
+-- speaks of another.
 use Rattle.std.specs.Prelude.{◌≡◌, ◌⊎◌, ℕ, ◌+◌, ◌<◌, ◌≤◌, List, length, get_or, Bool, true, false}
 use Rattle.cu_base.specs.Fields.{field}
 
--- a region: whether its bytes are told, the bytes as read (where they are not told, their number alone says something), and
--- the dirty places, whose bytes a power cut may change
+-- a region: whether its bytes are told, the bytes as read (where they are not told, their number
+-- alone says something), and the dirty places, whose bytes a power cut may change
 pub record Region : Type 0 where
   pub told : Bool
   pub bytes : List ℕ
@@ -18,8 +19,9 @@ pub record AgreesOutside (at n : ℕ) (old new : List ℕ) : Type 0 where
   pub long : length new ≡ length old
   pub same : (k : ℕ) → IsOutside at n k → get_or new k 0 ≡ get_or old k 0
 
--- an image: what a power cut may leave of a region, any list of its length that agrees with the bytes as read outside the
--- dirty places; the bytes as read are an image; a region that is not told has none
+-- an image: what a power cut may leave of a region, any list of its length that agrees with the
+-- bytes as read outside the dirty places; the bytes as read are an image; a region that is not told
+-- has none
 pub record IsImage (region : Region) (image : List ℕ) : Type 0 where
   pub told : region.told ≡ true
   pub long : length image ≡ length region.bytes

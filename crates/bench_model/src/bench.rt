@@ -1,5 +1,6 @@
 ghost use Rattle.std.specs.Prelude.{◌≡◌, ◌≤◌, length, OnOk, OnErr};
-ghost use Rattle.bench_model.specs.Bench.{HasOrderRoom, OrdersOnly, ArmsPlan, FailsPlan, Cycles, Lays};
+ghost use Rattle.bench_model.specs.Bench.{HasOrderRoom, OrdersOnly, ArmsPlan, FailsPlan, Cycles};
+ghost use Rattle.bench_model.specs.Bench.{Lays};
 ghost use Rattle.bench_model.specs.Bench.{laid_refusal};
 ghost use Rattle.bench_model.specs.Factory.{LaysOut};
 ghost use Rattle.bench_model.specs.Memory.{told_refusal};
@@ -31,7 +32,8 @@ pub trait Bench: Platform {
     /// Orders a power cut at the step after the next `after` ones, in place of one that is pending.
     fn arm(&mut self, after: u32, choice: Choice)
         requires room { HasOrderRoom (Self.state self.old) }
-        ensures frame { OrdersOnly (Order.Arm after choice) (Self.state self.old) (Self.state self.new) }
+        ensures frame { OrdersOnly (Order.Arm after choice) (Self.state self.old)
+            (Self.state self.new) }
         ensures plan { ArmsPlan after choice (Self.state self.old) (Self.state self.new) };
 
     /// Orders a fault of the `nth` call from now on, in place of one that is pending.

@@ -1,4 +1,5 @@
-ghost use Rattle.std.specs.Prelude.{◌≡◌, ◌==◌, false, ◌+◌, ◌≤◌, ◌<◌, [], ◌∷◌, ◌++◌, length, OnOk, OnErr, IsOk, slice_get, option_copied};
+ghost use Rattle.std.specs.Prelude.{◌≡◌, ◌==◌, false, ◌+◌, ◌≤◌, ◌<◌, [], ◌∷◌, ◌++◌, length, OnOk};
+ghost use Rattle.std.specs.Prelude.{OnErr, IsOk, slice_get, option_copied};
 
 use crate::Device;
 use cu_base::{Guid, Items, NoMemory};
@@ -53,7 +54,8 @@ impl Devices {
     /// Appends a device. It is Ok wherever `spare` is at least 1.
     pub fn push(&mut self, device: Device) -> Result<(), NoMemory>
         requires name { has_name device.name self.old.items ≡ false }
-        requires triple { has_triple device.type_id device.index device.instance self.old.items ≡ false }
+        requires triple { has_triple device.type_id device.index device.instance self.old.items
+            ≡ false }
         ensures ok { OnOk result (self.new.items ≡ self.old.items ++ device ∷ []) }
         ensures spare { OnOk result (self.old.spare ≤ self.new.spare + 1) }
         ensures enough { 0 < self.old.spare → IsOk result }

@@ -1,7 +1,8 @@
 ghost use Rattle.std.specs.Prelude.{◌≡◌, ℕ, ◌≤◌, length, OnOk, OnErr, IsOk};
 ghost use Rattle.bench_model.specs.Bench.{BenchValue, HasRegion, HasDevice, IsWithin, MayWrite};
 ghost use Rattle.bench_model.specs.Bench.{RegionReads, RegionWrites, RegionSyncs, IsRegionStable};
-ghost use Rattle.bench_model.specs.Bench.{ChangesCounts, ChangesRegion, ChangesContents, Begins, after_end};
+ghost use Rattle.bench_model.specs.Bench.{ChangesCounts, ChangesRegion, ChangesContents, Begins};
+ghost use Rattle.bench_model.specs.Bench.{after_end};
 ghost use Rattle.bench_model.specs.Bench.{CountsMove, CountsLook, FlashCause, FlashFollows};
 
 use crate::Call;
@@ -13,8 +14,8 @@ pub trait BenchState {
     ghost state: { Self → BenchValue };
 }
 
-/// A flash whose power may fail. Regions 0 and 1 are banks, and region `2 + d` is that of device `d`.
-/// A written place is dirty until its region is synced: a power cut may leave any byte there.
+/// A flash whose power may fail. Regions 0 and 1 are banks, and region `2 + d` is that of device
+/// `d`. A written place is dirty until its region is synced: a power cut may leave any byte there.
 pub trait Flash: BenchState {
     /// How many regions there are.
     fn regions(&self) -> u32
@@ -35,21 +36,22 @@ pub trait Flash: BenchState {
         ensures cause { FlashCause (Self.state self.old) (Self.state self.new) result }
         ensures strikes { FlashFollows Call.Look result (Self.state self.old) (Self.state self.new) };
 
-    /// Writes bytes from place `at` of a region on. A move. Where it failed the range may read as any
-    /// bytes.
+    /// Writes bytes from place `at` of a region on. A move. Where it failed the range may read as
+    /// any bytes.
     fn write(&mut self, region: u32, at: u32, bytes: &[u8]) -> Result<(), Failed>
         requires there { HasRegion region (Self.state self.old) }
         requires within { IsWithin region at (length bytes.now) (Self.state self.old) }
         requires begun { MayWrite region (Self.state self.old) }
         ensures ok { OnOk result (RegionReads region at bytes.now (Self.state self.new)) }
-        ensures writes { RegionWrites region at (length bytes.now) (Self.state self.old) (Self.state self.new) }
+        ensures writes { RegionWrites region at (length bytes.now) (Self.state self.old)
+            (Self.state self.new) }
         ensures frame { ChangesRegion region (Self.state self.old) (Self.state self.new) }
         ensures counts { CountsMove (Self.state self.old) (Self.state self.new) }
         ensures cause { FlashCause (Self.state self.old) (Self.state self.new) result }
         ensures strikes { FlashFollows Call.Step result (Self.state self.old) (Self.state self.new) };
 
-    /// Makes the bytes as read of a region last: no place of it is dirty then. A move. Where it failed
-    /// nothing changed.
+    /// Makes the bytes as read of a region last: no place of it is dirty then. A move. Where it
+    /// failed nothing changed.
     fn sync(&mut self, region: u32) -> Result<(), Failed>
         requires there { HasRegion region (Self.state self.old) }
         ensures ok { OnOk result (IsRegionStable region (Self.state self.new)) }
@@ -66,11 +68,12 @@ pub trait Flash: BenchState {
         ensures ok { OnOk result (1 ≤ (Self.state self.new).spare device) }
         ensures enough { 1 ≤ (Self.state self.old).spare device → IsOk result }
         ensures err { OnErr result (Self.state self.new ≡ Self.state self.old) }
-        ensures frame { Self.state self.new ≡ record (Self.state self.old) { spare = (Self.state self.new).spare } }
+        ensures frame { Self.state self.new
+            ≡ record (Self.state self.old) { spare = (Self.state self.new).spare } }
         ensures spare { (d : ℕ) → (Self.state self.old).spare d ≤ (Self.state self.new).spare d };
 
-    /// Begins the update of a device with this ticket: its region may be written until it is ended. A
-    /// move. Where it failed nothing changed.
+    /// Begins the update of a device with this ticket: its region may be written until it is ended.
+    /// A move. Where it failed nothing changed.
     fn begin(&mut self, device: u8, ticket: Ticket) -> Result<(), Failed>
         requires there { HasDevice device (Self.state self.old) }
         requires ready { 1 ≤ (Self.state self.old).spare device }
@@ -81,10 +84,12 @@ pub trait Flash: BenchState {
         ensures cause { FlashCause (Self.state self.old) (Self.state self.new) result }
         ensures strikes { FlashFollows Call.Step result (Self.state self.old) (Self.state self.new) };
 
-    /// Ends the update of a device: no device is open then. A move. Where it failed nothing changed.
+    /// Ends the update of a device: no device is open then. A move. Where it failed nothing
+    /// changed.
     fn end(&mut self, device: u8) -> Result<(), Failed>
         requires there { HasDevice device (Self.state self.old) }
-        ensures ok { OnOk result ((Self.state self.new).contents ≡ after_end (Self.state self.old).contents) }
+        ensures ok { OnOk result ((Self.state self.new).contents
+            ≡ after_end (Self.state self.old).contents) }
         ensures err { OnErr result (ChangesCounts (Self.state self.old) (Self.state self.new)) }
         ensures frame { ChangesContents (Self.state self.old) (Self.state self.new) }
         ensures counts { CountsMove (Self.state self.old) (Self.state self.new) }

@@ -1,8 +1,8 @@
 //! What a platform is made of, for a simulation of its flash: the board with its devices, and the
 //! traits of its flash, its volume and its memory.
 //!
-//! A `Board` and a `Device` keep every limit: contracts see them as records of their fields, and the
-//! calls that hand one out tell again that it keeps the limits. So no later code tests them.
+//! A `Board` and a `Device` keep every limit: contracts see them as records of their fields, and
+//! the calls that hand one out tell again that it keeps the limits. So no later code tests them.
 //!
 //! All that a flash, a volume and a memory mean is one record, the `state` of `BenchState`.
 #![tactic(auto)]

@@ -1,6 +1,7 @@
 ghost use Rattle.std.specs.Prelude.{◌≡◌, IsTrue, if◌then◌else◌};
 ghost use Rattle.std.specs.Bool.{OnTrue};
-ghost use Rattle.bench_model.specs.Plans.{no_plan, is_off, strike_of, is_struck, has_no_power, after_call, strikes_next, failing_after};
+ghost use Rattle.bench_model.specs.Plans.{no_plan, is_off, strike_of, is_struck, has_no_power};
+ghost use Rattle.bench_model.specs.Plans.{after_call, strikes_next, failing_after};
 
 use crate::Choice;
 

@@ -1,6 +1,7 @@
 ghost use Rattle.std.specs.Prelude.{◌≡◌, [], length, OnOk, OnErr};
 ghost use Rattle.std.specs.Bool.{OnTrue, OnFalse};
-ghost use Rattle.bench_model.specs.Memory.{IsMemory, IsThere, IsLacking, bytes_laid, with_segment, lay_refusal, told_refusal};
+ghost use Rattle.bench_model.specs.Memory.{IsMemory, IsThere, IsLacking, bytes_laid, with_segment};
+ghost use Rattle.bench_model.specs.Memory.{lay_refusal, told_refusal};
 
 use crate::segment::{are_there, copy_out};
 use crate::{LayFault, MAX_MEMORY_BYTES, MAX_SEGMENTS, PhysMem, Segment};
@@ -41,8 +42,8 @@ impl Segments {
         }
     }
 
-    /// Lays bytes at an address, over what is there. It answers Wraps exactly where they would reach
-    /// the last address, else Full exactly where a limit would be passed.
+    /// Lays bytes at an address, over what is there. It answers Wraps exactly where they would
+    /// reach the last address, else Full exactly where a limit would be passed.
     pub fn lay(&mut self, at: u64, bytes: &[u8]) -> Result<(), LayFault>
         ensures ok { OnOk result (self.new ≡ with_segment self.old at bytes.now) }
         ensures err { OnErr result (self.new ≡ self.old) }

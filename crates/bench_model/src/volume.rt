@@ -1,9 +1,11 @@
 ghost use Rattle.std.specs.Prelude.{◌≡◌, ◌≢◌, ◌≤◌, length, IsTrue, IfOk, IfErr, OnOk, OnErr};
 ghost use Rattle.bench_model.specs.Files.{is_file_name};
-ghost use Rattle.bench_model.specs.Bench.{HasFile, IsInFile, FileReads, Lists, IsPutAnswer, Puts, PutStops};
+ghost use Rattle.bench_model.specs.Bench.{HasFile, IsInFile, FileReads, Lists, IsPutAnswer, Puts};
+ghost use Rattle.bench_model.specs.Bench.{PutStops};
 ghost use Rattle.bench_model.specs.Bench.{Removes, RemoveStops, ChangesCounts, ChangesContents};
 ghost use Rattle.bench_model.specs.Bench.{CountsFolderLook, CountsFolderChange};
-ghost use Rattle.bench_model.specs.Bench.{VolumeCause, VolumeCauseOf, VolumeFollows, VolumeFollowsOf};
+ghost use Rattle.bench_model.specs.Bench.{VolumeCause, VolumeCauseOf, VolumeFollows};
+ghost use Rattle.bench_model.specs.Bench.{VolumeFollowsOf};
 
 use crate::{BenchState, Call, Listing, MAX_FILE_BYTES, VolumeFault};
 use cu_base::{Failed, Text};
@@ -37,16 +39,18 @@ pub trait Volume: BenchState {
     fn put(&mut self, alloc: Global, name: &Text, bytes: &[u8]) -> Result<u64, VolumeFault>
         requires name { IsTrue (is_file_name name.now) }
         requires size { length bytes.now ≤ MAX_FILE_BYTES }
-        ensures ok { IfOk result (λ serial. Puts name.now bytes.now serial (Self.state self.old) (Self.state self.new)) }
-        ensures err { IfErr result (PutStops name.now bytes.now (Self.state self.old) (Self.state self.new)) }
+        ensures ok { IfOk result (λ serial. Puts name.now bytes.now serial (Self.state self.old)
+            (Self.state self.new)) }
+        ensures err { IfErr result (PutStops name.now bytes.now (Self.state self.old)
+            (Self.state self.new)) }
         ensures refused { IsPutAnswer name.now (length bytes.now) (Self.state self.old) result }
         ensures frame { ChangesContents (Self.state self.old) (Self.state self.new) }
         ensures counts { CountsFolderChange (Self.state self.old) (Self.state self.new) }
         ensures cause { VolumeCauseOf (Self.state self.old) (Self.state self.new) result }
         ensures strikes { VolumeFollowsOf Call.Step result (Self.state self.old) (Self.state self.new) };
 
-    /// Takes a file out of the folder. It is neither a move nor a look. Where it failed it was done or
-    /// it was not.
+    /// Takes a file out of the folder. It is neither a move nor a look. Where it failed it was done
+    /// or it was not.
     fn remove(&mut self, serial: u64) -> Result<(), Failed>
         requires there { HasFile serial (Self.state self.old) }
         ensures ok { OnOk result (Removes serial (Self.state self.old) (Self.state self.new)) }

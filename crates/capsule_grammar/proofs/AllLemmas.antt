@@ -1,5 +1,7 @@
 -- Capsules back to back: one list, or one refusal, and never both.
-use Rattle.std.proofs.Common.{◌≡◌, ℕ, zero, suc, ◌+◌, ◌<◌, ◌≤◌, List, [], ◌∷◌, ◌++◌, length, take, drop, Option, Some, None, refl, sym, ap, ◌∙◌, ◌⊎◌, inl, inr, arith, append_assoc, length-append}
+use Rattle.std.proofs.Common.{◌≡◌, ℕ, zero, suc, ◌+◌, ◌<◌, ◌≤◌, List, [], ◌∷◌, ◌++◌, length, take}
+use Rattle.std.proofs.Common.{drop, Option, Some, None, refl, sym, ap, ◌∙◌, ◌⊎◌, inl, inr, arith}
+use Rattle.std.proofs.Common.{append_assoc, length-append}
 use Rattle.std.specs.List.{flat_map, AllByRecursion}
 use Rattle.std.proofs.lemmas.Bool.{cases_eq}
 use Rattle.std.proofs.lemmas.List.{append-nil, drop_at, length_push}
@@ -14,7 +16,8 @@ use Rattle.capsule_grammar.specs.Fits.{IsCapsule}
 use Rattle.capsule_grammar.specs.Reading.{capsule_of}
 use Rattle.capsule_grammar.specs.Refusals.{refusal}
 use Rattle.capsule_grammar.specs.Spelling.{spelling}
-use Rattle.capsule_grammar.proofs.BackLemmas.{Before, before_grown, spells_all, one_more, refused_rest}
+use Rattle.capsule_grammar.proofs.BackLemmas.{Before, before_grown, spells_all, one_more}
+use Rattle.capsule_grammar.proofs.BackLemmas.{refused_rest}
 use Rattle.capsule_grammar.proofs.FoundLemmas.{both}
 use Rattle.capsule_grammar.proofs.Read.{read_is_capsule, read_is_spelled, read_length}
 use Rattle.capsule_grammar.proofs.Spelled.{spelled_is_read, spelled_reads_back, spelling_length}

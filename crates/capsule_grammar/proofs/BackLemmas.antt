@@ -1,7 +1,9 @@
 -- Capsules that are read one after the other.
-use Rattle.std.proofs.Common.{◌≡◌, ℕ, ◌+◌, ◌-◌, ◌^◌, ◌<◌, ◌≤◌, List, [], ◌∷◌, ◌++◌, length, take, drop, Some, refl, sym, ap, subst, ◌∙◌, inl, inr, arith}
+use Rattle.std.proofs.Common.{◌≡◌, ℕ, ◌+◌, ◌-◌, ◌^◌, ◌<◌, ◌≤◌, List, [], ◌∷◌, ◌++◌, length, take}
+use Rattle.std.proofs.Common.{drop, Some, refl, sym, ap, subst, ◌∙◌, inl, inr, arith}
 use Rattle.std.specs.List.{flat_map, AllByRecursion}
-use Rattle.std.proofs.lemmas.List.{flat_map_more, take_all, take_rest, take-append-drop, length-take, length-drop}
+use Rattle.std.proofs.lemmas.List.{flat_map_more, take_all, take_rest, take-append-drop}
+use Rattle.std.proofs.lemmas.List.{length-take, length-drop}
 use Rattle.cu_base.specs.declared.limits.TheConstants.{MAX_CAPSULE_BYTES}
 use Rattle.cu_base.specs.Bytes.{IsBytes}
 use Rattle.cu_base.proofs.Fields.{take_field, IsBytes-drop}

@@ -1,16 +1,24 @@
 -- What the front of bytes tells of the whole.
-use Rattle.std.proofs.Common.{◌≡◌, ℕ, ◌+◌, ◌-◌, ◌*◌, ◌<◌, ◌≤◌, ◌||◌, min, not, ltb, List, [], ◌∷◌, ◌++◌, length, take, drop, refl, sym, ap, ◌∙◌, ◌⊎◌, inl, inr, arith}
+use Rattle.std.proofs.Common.{◌≡◌, ℕ, ◌+◌, ◌-◌, ◌*◌, ◌<◌, ◌≤◌, ◌||◌, min, not, ltb, List, [], ◌∷◌}
+use Rattle.std.proofs.Common.{◌++◌, length, take, drop, refl, sym, ap, ◌∙◌, ◌⊎◌, inl, inr, arith}
 use Rattle.std.proofs.lemmas.Bool.{cases_lt, cond-true, cond-false, lt-ltb, le-ltb}
 use Rattle.std.proofs.lemmas.Bool.Decides.{nat_tests}
-use Rattle.std.proofs.lemmas.List.{take_all, take_at, take-take, drop-take, length-take, length-append}
+use Rattle.std.proofs.lemmas.List.{take_all, take_at, take-take, drop-take, length-take}
+use Rattle.std.proofs.lemmas.List.{length-append}
 use Rattle.cu_base.specs.Fields.{number, field, number_at, bytes_of}
 use Rattle.cu_base.specs.Refusals.{Row, row_at, first_refusal}
-use Rattle.fmp_headers.specs.CapsuleHeader.{header_size, image_size, is_short, has_bad_header_size, is_above_limit}
-use Rattle.fmp_headers.specs.ImageHeader.{image_version, is_image_version, image_header_size, image_header_rows}
+use Rattle.fmp_headers.specs.CapsuleHeader.{header_size, image_size, is_short, has_bad_header_size}
+use Rattle.fmp_headers.specs.CapsuleHeader.{is_above_limit}
+use Rattle.fmp_headers.specs.ImageHeader.{image_version, is_image_version, image_header_size}
+use Rattle.fmp_headers.specs.ImageHeader.{image_header_rows}
 use Rattle.cu_base.proofs.Fields.{length-bytes_of}
-use Rattle.capsule_grammar.specs.Refusals.{driver_count, image_count, item_count, list_end, offset, start_of, bound, image_parts_size, image_rows, capsule_rows}
+use Rattle.capsule_grammar.specs.Refusals.{driver_count, image_count, item_count, list_end, offset}
+use Rattle.capsule_grammar.specs.Refusals.{start_of, bound, image_parts_size, image_rows}
+use Rattle.capsule_grammar.specs.Refusals.{capsule_rows}
 use Rattle.capsule_grammar.specs.declared.refusal.Why.{Why}
-use Rattle.capsule_grammar.specs.declared.refusal.Why.TheVariants.{Short, BadHeaderSize, BadImageSize, BadImageVersion, ImageOutside}
+use Rattle.capsule_grammar.specs.declared.refusal.Why.TheVariants.{Short, BadHeaderSize}
+use Rattle.capsule_grammar.specs.declared.refusal.Why.TheVariants.{BadImageSize, BadImageVersion}
+use Rattle.capsule_grammar.specs.declared.refusal.Why.TheVariants.{ImageOutside}
 use Rattle.capsule_grammar.specs.Accepted.{AreBounds}
 use Rattle.capsule_grammar.specs.Fronts.{Begins}
 use Rattle.capsule_grammar.proofs.Offsets.{bound_is, bound_ends}

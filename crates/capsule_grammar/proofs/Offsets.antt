@@ -1,9 +1,12 @@
 -- What it means that no offset is refused.
-use Rattle.std.proofs.Common.{◌≡◌, ℕ, ◌+◌, ◌-◌, ◌<◌, ◌≤◌, ltb, leb, List, length, None, arith, inl, inr}
-use Rattle.std.proofs.lemmas.Bool.{ltb-false, leb-false, lt-ltb, le-ltb, or_parts, and_cases, cases_lt, cond-true, cond-false, both_ways}
+use Rattle.std.proofs.Common.{◌≡◌, ℕ, ◌+◌, ◌-◌, ◌<◌, ◌≤◌, ltb, leb, List, length, None, arith, inl}
+use Rattle.std.proofs.Common.{inr}
+use Rattle.std.proofs.lemmas.Bool.{ltb-false, leb-false, lt-ltb, le-ltb, or_parts, and_cases}
+use Rattle.std.proofs.lemmas.Bool.{cases_lt, cond-true, cond-false, both_ways}
 use Rattle.cu_base.specs.Refusals.{first_refusal}
 use Rattle.cu_base.proofs.Rows.{passed, each_in}
-use Rattle.capsule_grammar.specs.Refusals.{item_count, list_end, offset, bound, offset_rows, all_offset_rows}
+use Rattle.capsule_grammar.specs.Refusals.{item_count, list_end, offset, bound, offset_rows}
+use Rattle.capsule_grammar.specs.Refusals.{all_offset_rows}
 use Rattle.capsule_grammar.specs.Accepted.{AreBounds}
 
 -- an offset that is not refused

@@ -1,5 +1,7 @@
 -- The place of a refusal is small.
-use Rattle.std.proofs.Common.{◌≡◌, ℕ, zero, suc, ◌+◌, ◌*◌, ◌-◌, ◌^◌, ◌<◌, ◌≤◌, Bool, true, false, cond, List, [], ◌∷◌, ◌++◌, length, Option, Some, None, refl, sym, ap, ◌∙◌, ◌⊎◌, inl, inr, arith}
+use Rattle.std.proofs.Common.{◌≡◌, ℕ, zero, suc, ◌+◌, ◌*◌, ◌-◌, ◌^◌, ◌<◌, ◌≤◌, Bool, true, false}
+use Rattle.std.proofs.Common.{cond, List, [], ◌∷◌, ◌++◌, length, Option, Some, None, refl, sym, ap}
+use Rattle.std.proofs.Common.{◌∙◌, ◌⊎◌, inl, inr, arith}
 use Rattle.std.specs.List.{flat_map, range_with_len, AllByRecursion}
 use Rattle.std.proofs.lemmas.Bool.{cases_Bool, cond-true, cond-false, ltb-false}
 use Rattle.cu_base.specs.Refusals.{Row, first_refusal}
@@ -10,7 +12,10 @@ use Rattle.fmp_headers.specs.CapsuleHeader.{header_size, image_size}
 use Rattle.cu_base.proofs.Rows.{passed, of_each, some-parts, which_in}
 use Rattle.cu_base.proofs.Fields.{IsBytes-field, length-field}
 use Rattle.capsule_grammar.specs.declared.refusal.Why.{Why}
-use Rattle.capsule_grammar.specs.Refusals.{refusal, capsule_rows, is_fmp_guid, body_of, fmp_rows, fmp_front_rows, offset_rows, all_offset_rows, all_image_rows, image_rows, driver_count, image_count, item_count, list_end, bound, item}
+use Rattle.capsule_grammar.specs.Refusals.{refusal, capsule_rows, is_fmp_guid, body_of, fmp_rows}
+use Rattle.capsule_grammar.specs.Refusals.{fmp_front_rows, offset_rows, all_offset_rows}
+use Rattle.capsule_grammar.specs.Refusals.{all_image_rows, image_rows, driver_count, image_count}
+use Rattle.capsule_grammar.specs.Refusals.{item_count, list_end, bound, item}
 use Rattle.capsule_grammar.proofs.Offsets.{all_are_bounds}
 use Rattle.capsule_grammar.proofs.Read.{is_front}
 

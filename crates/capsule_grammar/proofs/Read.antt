@@ -1,32 +1,48 @@
 -- What is read is spelled: bytes of which no row holds are the spelling of the capsule that is read
 -- from them.
-use Rattle.std.proofs.Common.{◌≡◌, ℕ, zero, suc, ◌+◌, ◌*◌, ◌-◌, ◌^◌, ◌<◌, ◌≤◌, true, cond, List, [], ◌++◌, length, take, drop, map, None, Ok, refl, sym, ap, ◌∙◌, inl, inr, arith, append_assoc}
+use Rattle.std.proofs.Common.{◌≡◌, ℕ, zero, suc, ◌+◌, ◌*◌, ◌-◌, ◌^◌, ◌<◌, ◌≤◌, true, cond, List, []}
+use Rattle.std.proofs.Common.{◌++◌, length, take, drop, map, None, Ok, refl, sym, ap, ◌∙◌, inl, inr}
+use Rattle.std.proofs.Common.{arith, append_assoc}
 use Rattle.std.specs.List.{range_with_len, concat, list_all, flat_map, AllByRecursion}
-use Rattle.std.proofs.lemmas.Bool.{ltb-false, lt-ltb, le-leb, le-ltb, or_parts, and_from, eq-eqb, eqb-true, not-false, not_from_true, cases_Bool, cond-true, cond-false}
+use Rattle.std.proofs.lemmas.Bool.{ltb-false, lt-ltb, le-leb, le-ltb, or_parts, and_from, eq-eqb}
+use Rattle.std.proofs.lemmas.Bool.{eqb-true, not-false, not_from_true, cases_Bool, cond-true}
+use Rattle.std.proofs.lemmas.Bool.{cond-false}
 use Rattle.std.proofs.lemmas.List.{take_all, length-take, take-append-drop}
 use Rattle.std.proofs.lemmas.List.FromFn.{length-map-range_with_len}
 use Rattle.cu_base.specs.Fields.{field, number_at, bytes_of}
 use Rattle.cu_base.specs.Refusals.{first_refusal}
 use Rattle.cu_base.specs.declared.limits.TheConstants.{MAX_CAPSULE_BYTES}
 use Rattle.cu_base.specs.Bytes.{IsBytes}
-use Rattle.fmp_headers.specs.CapsuleHeader.{header_size, image_size, capsule_header_rows, capsule_header_fields, capsule_header_bytes}
-use Rattle.fmp_headers.specs.FmpHeader.{fmp_header_rows, fmp_header, fmp_header_fields, fmp_header_bytes}
-use Rattle.fmp_headers.specs.ImageHeader.{image_header_rows, image_header_fields, image_header_bytes, image_header_size, image_version, IsImageHeader}
+use Rattle.fmp_headers.specs.CapsuleHeader.{header_size, image_size, capsule_header_rows}
+use Rattle.fmp_headers.specs.CapsuleHeader.{capsule_header_fields, capsule_header_bytes}
+use Rattle.fmp_headers.specs.FmpHeader.{fmp_header_rows, fmp_header, fmp_header_fields}
+use Rattle.fmp_headers.specs.FmpHeader.{fmp_header_bytes}
+use Rattle.fmp_headers.specs.ImageHeader.{image_header_rows, image_header_fields}
+use Rattle.fmp_headers.specs.ImageHeader.{image_header_bytes, image_header_size, image_version}
+use Rattle.fmp_headers.specs.ImageHeader.{IsImageHeader}
 use Rattle.fmp_headers.specs.declared.capsule.CapsuleHeader.{CapsuleHeader}
 use Rattle.cu_base.proofs.Rows.{passed, none_refused, first-parts, each_in}
 use Rattle.fmp_headers.proofs.Headers.{header_given, capsule_header_back, fmp_header_back}
 use Rattle.fmp_headers.proofs.Images.{image_header_back, image_header_kept}
-use Rattle.cu_base.proofs.Fields.{length-field, next_field, take_field, bytes_of-number_at, number_at-below, IsBytes-field}
+use Rattle.cu_base.proofs.Fields.{length-field, next_field, take_field, bytes_of-number_at}
+use Rattle.cu_base.proofs.Fields.{number_at-below, IsBytes-field}
 use Rattle.capsule_grammar.specs.declared.value.Body.{Body}
 use Rattle.capsule_grammar.specs.declared.value.Body.TheVariants.{Other, Fmp}
-use Rattle.capsule_grammar.specs.Refusals.{refusal, capsule_rows, is_fmp_guid, body_of, fmp_rows, fmp_front_rows, all_offset_rows, all_image_rows, image_rows, driver_count, image_count, item_count, list_end, bound, item}
+use Rattle.capsule_grammar.specs.Refusals.{refusal, capsule_rows, is_fmp_guid, body_of, fmp_rows}
+use Rattle.capsule_grammar.specs.Refusals.{fmp_front_rows, all_offset_rows, all_image_rows}
+use Rattle.capsule_grammar.specs.Refusals.{image_rows, driver_count, image_count, item_count}
+use Rattle.capsule_grammar.specs.Refusals.{list_end, bound, item}
 use Rattle.capsule_grammar.specs.Accepted.{AreBounds, IsImageItem, IsFmpBody, IsFront}
-use Rattle.capsule_grammar.specs.Spelling.{image_bytes, item_bytes, offsets, fmp_bytes, body_bytes, spelling}
-use Rattle.capsule_grammar.specs.Fits.{is_nonempty, image_fits, fmp_fits, body_fits, HaveWidths, IsCapsule}
+use Rattle.capsule_grammar.specs.Spelling.{image_bytes, item_bytes, offsets, fmp_bytes, body_bytes}
+use Rattle.capsule_grammar.specs.Spelling.{spelling}
+use Rattle.capsule_grammar.specs.Fits.{is_nonempty, image_fits, fmp_fits, body_fits, HaveWidths}
+use Rattle.capsule_grammar.specs.Fits.{IsCapsule}
 use Rattle.capsule_grammar.specs.Reading.{image_of, fmp_of, body_read, capsule_of}
 use Rattle.capsule_grammar.proofs.Offsets.{all_are_bounds, bound_is, bound_ends}
 use Rattle.capsule_grammar.proofs.Spelled.{spelling_length}
-use Rattle.capsule_grammar.proofs.Lists.{field_split, between_split, map_range, map-range-append, map-map-range, all_of_range, all_range, regroup, append_both}
+use Rattle.capsule_grammar.proofs.Lists.{field_split, between_split, map_range, map-range-append}
+use Rattle.capsule_grammar.proofs.Lists.{map-map-range, all_of_range, all_range, regroup}
+use Rattle.capsule_grammar.proofs.Lists.{append_both}
 
 -- ---- an image
 

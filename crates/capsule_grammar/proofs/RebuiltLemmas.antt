@@ -1,5 +1,7 @@
 -- What is written again of a capsule.
-use Rattle.std.proofs.Common.{◌≡◌, ℕ, ◌+◌, ◌-◌, ◌<◌, ◌≤◌, true, false, ltb, List, [], ◌++◌, length, get_or, take, drop, map, None, refl, sym, ap, ◌∙◌, inl, inr, arith, append_assoc}
+use Rattle.std.proofs.Common.{◌≡◌, ℕ, ◌+◌, ◌-◌, ◌<◌, ◌≤◌, true, false, ltb, List, [], ◌++◌, length}
+use Rattle.std.proofs.Common.{get_or, take, drop, map, None, refl, sym, ap, ◌∙◌, inl, inr, arith}
+use Rattle.std.proofs.Common.{append_assoc}
 use Rattle.std.specs.List.{range_with_len, concat, flat_map}
 use Rattle.std.proofs.lemmas.Bool.{lt-ltb, le-ltb, cond-true, cond-false, cases_lt}
 use Rattle.std.proofs.lemmas.List.{append-nil, take_all, length-take}
@@ -8,17 +10,21 @@ use Rattle.cu_base.specs.Fields.{field, number_at, bytes_of}
 use Rattle.cu_base.specs.Bytes.{IsBytes}
 use Rattle.fmp_headers.specs.FmpHeader.{fmp_header_bytes}
 use Rattle.fmp_headers.specs.CapsuleHeader.{header_size, image_size, capsule_header_bytes}
-use Rattle.fmp_headers.specs.ImageHeader.{image_header_fields, image_header_bytes, image_header_size, image_version}
+use Rattle.fmp_headers.specs.ImageHeader.{image_header_fields, image_header_bytes}
+use Rattle.fmp_headers.specs.ImageHeader.{image_header_size, image_version}
 use Rattle.fmp_headers.specs.declared.capsule.CapsuleHeader.{CapsuleHeader}
 use Rattle.cu_base.proofs.Fields.{next_field, IsBytes-field, length-field}
 use Rattle.fmp_headers.proofs.Images.{image_header_back}
 use Rattle.capsule_grammar.specs.declared.value.Body.{Body}
 use Rattle.capsule_grammar.specs.declared.value.Body.TheVariants.{Other, Fmp}
 use Rattle.capsule_grammar.specs.Accepted.{IsImageItem, IsFmpBody, IsFront}
-use Rattle.capsule_grammar.specs.Refusals.{driver_count, image_count, item_count, list_end, bound, item, image_parts_size, is_fmp_guid, body_of, refusal}
-use Rattle.capsule_grammar.specs.Spelling.{image_bytes, item_bytes, fmp_bytes, offsets, first_place, header_of, body_bytes, spelling}
+use Rattle.capsule_grammar.specs.Refusals.{driver_count, image_count, item_count, list_end, bound}
+use Rattle.capsule_grammar.specs.Refusals.{item, image_parts_size, is_fmp_guid, body_of, refusal}
+use Rattle.capsule_grammar.specs.Spelling.{image_bytes, item_bytes, fmp_bytes, offsets, first_place}
+use Rattle.capsule_grammar.specs.Spelling.{header_of, body_bytes, spelling}
 use Rattle.capsule_grammar.specs.Reading.{image_of, fmp_of, capsule_of}
-use Rattle.capsule_grammar.specs.Rebuilt.{without_pad, emptied_fmp, emptied_body, emptied, with_body, kept, kept_items}
+use Rattle.capsule_grammar.specs.Rebuilt.{without_pad, emptied_fmp, emptied_body, emptied}
+use Rattle.capsule_grammar.specs.Rebuilt.{with_body, kept, kept_items}
 use Rattle.capsule_grammar.proofs.Lists.{map_range, map-range-append, map-map-range, regroup}
 use Rattle.capsule_grammar.proofs.Read.{read_is_spelled, next_bound}
 use Rattle.capsule_grammar.proofs.SizeLemmas.{length-fmp_bytes}

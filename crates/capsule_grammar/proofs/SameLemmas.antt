@@ -1,5 +1,7 @@
 -- A capsule that a rebuild leaves as it is.
-use Rattle.std.proofs.Common.{◌≡◌, ℕ, zero, suc, ◌+◌, ◌*◌, ◌-◌, ◌≤◌, true, List, [], ◌∷◌, ◌++◌, length, take, map, None, refl, sym, ap, ◌∙◌, inl, inr, arith, length-append}
+use Rattle.std.proofs.Common.{◌≡◌, ℕ, zero, suc, ◌+◌, ◌*◌, ◌-◌, ◌≤◌, true, List, [], ◌∷◌, ◌++◌}
+use Rattle.std.proofs.Common.{length, take, map, None, refl, sym, ap, ◌∙◌, inl, inr, arith}
+use Rattle.std.proofs.Common.{length-append}
 use Rattle.std.specs.List.{range_with_len, concat, flat_map}
 use Rattle.std.proofs.lemmas.Bool.{cases_lt, cond-true}
 use Rattle.std.proofs.lemmas.List.{take_all, length-take}
@@ -12,13 +14,16 @@ use Rattle.cu_base.proofs.Fields.{IsBytes-field, length-field}
 use Rattle.capsule_grammar.specs.Accepted.{IsFmpBody}
 use Rattle.capsule_grammar.specs.Reading.{image_of, fmp_of, capsule_of}
 use Rattle.capsule_grammar.specs.Rebuilt.{emptied_fmp, emptied, with_body, kept, kept_items}
-use Rattle.capsule_grammar.specs.Refusals.{driver_count, image_count, item_count, list_end, item, image_parts_size, is_fmp_guid, body_of, refusal}
+use Rattle.capsule_grammar.specs.Refusals.{driver_count, image_count, item_count, list_end, item}
+use Rattle.capsule_grammar.specs.Refusals.{image_parts_size, is_fmp_guid, body_of, refusal}
 use Rattle.capsule_grammar.specs.Spelling.{item_bytes, fmp_bytes, offsets, first_place, spelling}
 use Rattle.capsule_grammar.specs.declared.value.Body.{Body}
 use Rattle.capsule_grammar.specs.declared.value.Body.TheVariants.{Other, Fmp}
 use Rattle.capsule_grammar.specs.Values.{FmpValue}
-use Rattle.capsule_grammar.proofs.Read.{fmp_spelled, items_read, read_is_spelled, front_of, fmp_case}
-use Rattle.capsule_grammar.proofs.RebuiltLemmas.{driver_kept, kept_image, kept_within, same_parts, fmp_kept, fmp_size_kept, emptied_is}
+use Rattle.capsule_grammar.proofs.Read.{fmp_spelled, items_read, read_is_spelled, front_of}
+use Rattle.capsule_grammar.proofs.Read.{fmp_case}
+use Rattle.capsule_grammar.proofs.RebuiltLemmas.{driver_kept, kept_image, kept_within, same_parts}
+use Rattle.capsule_grammar.proofs.RebuiltLemmas.{fmp_kept, fmp_size_kept, emptied_is}
 use Rattle.capsule_grammar.proofs.SizeLemmas.{length-fmp_bytes}
 use Rattle.capsule_grammar.proofs.Spelled.{spelling_length}
 

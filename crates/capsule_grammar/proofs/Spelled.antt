@@ -1,17 +1,27 @@
 -- What is spelled is read: of a spelling no row holds, whatever follows it, and the capsule is read
 -- from it again.
-use Rattle.std.proofs.Common.{◌≡◌, ℕ, zero, suc, ◌+◌, ◌*◌, ◌-◌, ◌^◌, ◌<◌, ◌≤◌, Bool, true, false, cond, ◌&&◌, ltb, leb, List, [], ◌∷◌, ◌++◌, length, get_or, take, drop, map, None, Ok, refl, sym, ap, subst, ◌∙◌, inl, inr, arith, append_assoc, length-append}
+use Rattle.std.proofs.Common.{◌≡◌, ℕ, zero, suc, ◌+◌, ◌*◌, ◌-◌, ◌^◌, ◌<◌, ◌≤◌, Bool, true, false}
+use Rattle.std.proofs.Common.{cond, ◌&&◌, ltb, leb, List, [], ◌∷◌, ◌++◌, length, get_or, take, drop}
+use Rattle.std.proofs.Common.{map, None, Ok, refl, sym, ap, subst, ◌∙◌, inl, inr, arith}
+use Rattle.std.proofs.Common.{append_assoc, length-append}
 use Rattle.std.specs.List.{range_with_len, concat, list_all, flat_map, AllByRecursion}
-use Rattle.std.proofs.lemmas.Bool.{ltb-false, ltb-true, leb-true, le-ltb, lt-leb, or_from, and_parts, and_left, and_right, eq-eqb, eqb-true, not-false, not_from_true, cases_lt}
-use Rattle.std.proofs.lemmas.List.{take_all, take-append-drop, length-map, drop_more, take_more, drop_at, same_lists, ext_get_or, get_or_append_left, get_or-append_right, append-nil, nil_from_length}
+use Rattle.std.proofs.lemmas.Bool.{ltb-false, ltb-true, leb-true, le-ltb, lt-leb, or_from}
+use Rattle.std.proofs.lemmas.Bool.{and_parts, and_left, and_right, eq-eqb, eqb-true, not-false}
+use Rattle.std.proofs.lemmas.Bool.{not_from_true, cases_lt}
+use Rattle.std.proofs.lemmas.List.{take_all, take-append-drop, length-map, drop_more, take_more}
+use Rattle.std.proofs.lemmas.List.{drop_at, same_lists, ext_get_or, get_or_append_left}
+use Rattle.std.proofs.lemmas.List.{get_or-append_right, append-nil, nil_from_length}
 use Rattle.std.proofs.lemmas.List.Folds.{concat-append}
 use Rattle.std.proofs.lemmas.List.FromFn.{length-map-range_with_len, get_or-map-range_with_len}
 use Rattle.cu_base.specs.Fields.{field, number_at, bytes_of}
 use Rattle.cu_base.specs.Refusals.{first_refusal}
 use Rattle.cu_base.specs.declared.limits.TheConstants.{MAX_CAPSULE_BYTES}
-use Rattle.fmp_headers.specs.CapsuleHeader.{header_size, image_size, capsule_header, capsule_header_rows, capsule_header_fields, capsule_header_bytes}
+use Rattle.fmp_headers.specs.CapsuleHeader.{header_size, image_size, capsule_header}
+use Rattle.fmp_headers.specs.CapsuleHeader.{capsule_header_rows, capsule_header_fields}
+use Rattle.fmp_headers.specs.CapsuleHeader.{capsule_header_bytes}
 use Rattle.fmp_headers.specs.FmpHeader.{fmp_header_fields, fmp_header_bytes, fmp_header_rows}
-use Rattle.fmp_headers.specs.ImageHeader.{image_header_rows, image_header_fields, image_header_bytes, image_header_size, IsImageHeader}
+use Rattle.fmp_headers.specs.ImageHeader.{image_header_rows, image_header_fields}
+use Rattle.fmp_headers.specs.ImageHeader.{image_header_bytes, image_header_size, IsImageHeader}
 use Rattle.fmp_headers.specs.declared.image.ImageHeader.{ImageHeader}
 use Rattle.fmp_headers.specs.declared.fmp.FmpHeader.{FmpHeader}
 use Rattle.fmp_headers.specs.declared.capsule.CapsuleHeader.{CapsuleHeader}
@@ -24,9 +34,15 @@ use Rattle.capsule_grammar.specs.declared.value.Body.{Body}
 use Rattle.capsule_grammar.specs.declared.value.Body.TheVariants.{Other, Fmp}
 use Rattle.capsule_grammar.specs.declared.value.Capsule.{Capsule}
 use Rattle.capsule_grammar.specs.Values.{FmpValue}
-use Rattle.capsule_grammar.specs.Refusals.{refusal, capsule_rows, is_fmp_guid, body_of, fmp_rows, fmp_front_rows, offset_rows, all_offset_rows, all_image_rows, image_rows, image_parts_size, driver_count, image_count, item_count, list_end, offset, bound, item}
-use Rattle.capsule_grammar.specs.Spelling.{image_bytes, item_bytes, offsets, fmp_bytes, body_bytes, first_place, header_of, spelling}
-use Rattle.capsule_grammar.specs.Fits.{is_nonempty, image_fits, fmp_fits, body_fits, HaveWidths, IsCapsule}
+use Rattle.capsule_grammar.specs.Refusals.{refusal, capsule_rows, is_fmp_guid, body_of, fmp_rows}
+use Rattle.capsule_grammar.specs.Refusals.{fmp_front_rows, offset_rows, all_offset_rows}
+use Rattle.capsule_grammar.specs.Refusals.{all_image_rows, image_rows, image_parts_size}
+use Rattle.capsule_grammar.specs.Refusals.{driver_count, image_count, item_count, list_end, offset}
+use Rattle.capsule_grammar.specs.Refusals.{bound, item}
+use Rattle.capsule_grammar.specs.Spelling.{image_bytes, item_bytes, offsets, fmp_bytes, body_bytes}
+use Rattle.capsule_grammar.specs.Spelling.{first_place, header_of, spelling}
+use Rattle.capsule_grammar.specs.Fits.{is_nonempty, image_fits, fmp_fits, body_fits, HaveWidths}
+use Rattle.capsule_grammar.specs.Fits.{IsCapsule}
 use Rattle.capsule_grammar.specs.Reading.{image_of, fmp_of, capsule_of}
 use Rattle.capsule_grammar.proofs.Offsets.{bound_is, bound_ends}
 use Rattle.capsule_grammar.proofs.Lists.{regroup}
@@ -619,7 +635,8 @@ body_again true (Fmp v) bytes at e widths is sized =
     let good = fits_body v widths e in
     let r = reads_body v good sized in (
       ap (λ (l : List ℕ). Fmp (fmp_of l)) is ∙ ap Fmp (fmp_again (fmp_bytes v) v good r),
-      ap (λ (l : List ℕ). first_refusal (fmp_rows l at)) is ∙ rows_of_body (fmp_bytes v) v at good r,
+      ap (λ (l : List ℕ). first_refusal (fmp_rows l at)) is
+          ∙ rows_of_body (fmp_bytes v) v at good r,
     )
 
 abbrev capsule_made : List ℕ → ℕ → List ℕ → Body → Capsule

@@ -2,9 +2,11 @@
 use Rattle.std.specs.Prelude.{◌≡◌, ℕ, ◌+◌, ◌≤◌, ◌<◌, List, length, Ok}
 use Rattle.cu_base.specs.Fields.{number_at}
 use Rattle.cu_base.specs.declared.limits.TheConstants.{MAX_CAPSULE_BYTES}
-use Rattle.fmp_headers.specs.CapsuleHeader.{header_size, image_size, capsule_header, capsule_header_fields}
+use Rattle.fmp_headers.specs.CapsuleHeader.{header_size, image_size, capsule_header}
+use Rattle.fmp_headers.specs.CapsuleHeader.{capsule_header_fields}
 use Rattle.fmp_headers.specs.ImageHeader.{image_header, image_header_fields}
-use Rattle.capsule_grammar.specs.Refusals.{driver_count, item_count, list_end, start_of, item, image_parts_size}
+use Rattle.capsule_grammar.specs.Refusals.{driver_count, item_count, list_end, start_of, item}
+use Rattle.capsule_grammar.specs.Refusals.{image_parts_size}
 
 -- Each item of a body of this front and size begins behind the offset list and ends where the next
 -- one begins, the last at the end. Only the last can be empty.

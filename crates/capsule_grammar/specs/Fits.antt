@@ -1,5 +1,6 @@
 -- Which capsules have a spelling that is read again.
-use Rattle.std.specs.Prelude.{◌≡◌, ℕ, ◌+◌, ◌-◌, ◌^◌, ◌<◌, Bool, true, false, IsTrue, ◌&&◌, List, length, take, nat_lt, nat_le, ◌==◌}
+use Rattle.std.specs.Prelude.{◌≡◌, ℕ, ◌+◌, ◌-◌, ◌^◌, ◌<◌, Bool, true, false, IsTrue, ◌&&◌, List}
+use Rattle.std.specs.Prelude.{length, take, nat_lt, nat_le, ◌==◌}
 use Rattle.std.specs.List.{list_all, AllByRecursion}
 use Rattle.cu_base.specs.declared.limits.TheConstants.{MAX_CAPSULE_BYTES}
 use Rattle.fmp_headers.specs.ImageHeader.{keeps_version_rules, IsImageHeader}

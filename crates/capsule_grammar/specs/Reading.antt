@@ -9,7 +9,8 @@ use Rattle.capsule_grammar.specs.declared.value.Body.{Body}
 use Rattle.capsule_grammar.specs.declared.value.Body.TheVariants.{Other, Fmp}
 use Rattle.capsule_grammar.specs.declared.value.Capsule.{Capsule}
 use Rattle.capsule_grammar.specs.Values.{FmpValue}
-use Rattle.capsule_grammar.specs.Refusals.{is_fmp_guid, body_of, driver_count, image_count, list_end, bound, item, image_parts_size}
+use Rattle.capsule_grammar.specs.Refusals.{is_fmp_guid, body_of, driver_count, image_count}
+use Rattle.capsule_grammar.specs.Refusals.{list_end, bound, item, image_parts_size}
 
 -- the image in the bytes of an item
 abbrev pub image_of : List ℕ → Image

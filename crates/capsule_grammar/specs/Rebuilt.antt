@@ -9,7 +9,8 @@ use Rattle.capsule_grammar.specs.declared.value.Body.TheVariants.{Other, Fmp}
 use Rattle.capsule_grammar.specs.declared.value.Capsule.{Capsule}
 use Rattle.capsule_grammar.specs.Values.{FmpValue}
 use Rattle.capsule_grammar.specs.Reading.{fmp_of}
-use Rattle.capsule_grammar.specs.Refusals.{body_of, driver_count, item_count, list_end, item, image_parts_size}
+use Rattle.capsule_grammar.specs.Refusals.{body_of, driver_count, item_count, list_end, item}
+use Rattle.capsule_grammar.specs.Refusals.{image_parts_size}
 use Rattle.capsule_grammar.specs.Spelling.{offsets}
 
 -- an image with an empty pad

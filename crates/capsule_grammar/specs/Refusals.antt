@@ -4,17 +4,23 @@
 --
 -- H is HeaderSize and S is CapsuleImageSize. The body is what stands from H to S. In the body of an
 -- FMP capsule, offsets count from its start, which is the start of the FMP header.
-use Rattle.std.specs.Prelude.{◌≡◌, ℕ, ◌+◌, ◌-◌, ◌*◌, Bool, ◌||◌, ◌&&◌, not, List, [], ◌∷◌, ◌++◌, length, nat_lt, nat_le, ◌==◌, if◌then◌else◌, Option, None, Some, Result, Ok, Err}
+use Rattle.std.specs.Prelude.{◌≡◌, ℕ, ◌+◌, ◌-◌, ◌*◌, Bool, ◌||◌, ◌&&◌, not, List, [], ◌∷◌, ◌++◌}
+use Rattle.std.specs.Prelude.{length, nat_lt, nat_le, ◌==◌, if◌then◌else◌, Option, None, Some}
+use Rattle.std.specs.Prelude.{Result, Ok, Err}
 use Rattle.std.specs.List.{flat_map, range_with_len}
 use Rattle.std.specs.Str.{bytes_eq}
 use Rattle.cu_base.specs.Fields.{field, number_at}
 use Rattle.cu_base.specs.Refusals.{Row, row_at, first_refusal, AnswersBy}
-use Rattle.fmp_headers.specs.CapsuleHeader.{header_size, image_size, is_short, has_bad_header_size, is_above_limit}
+use Rattle.fmp_headers.specs.CapsuleHeader.{header_size, image_size, is_short, has_bad_header_size}
+use Rattle.fmp_headers.specs.CapsuleHeader.{is_above_limit}
 use Rattle.fmp_headers.specs.ImageHeader.{image_version, is_image_version, image_header_size}
 use Rattle.fmp_headers.specs.declared.guids.TheConstants.{FMP_CAPSULE_GUID}
 use Rattle.capsule_grammar.specs.declared.refusal.Refusal.{Refusal}
 use Rattle.capsule_grammar.specs.declared.refusal.Why.{Why}
-use Rattle.capsule_grammar.specs.declared.refusal.Why.TheVariants.{Short, BadHeaderSize, BadImageSize, BadFmpVersion, BadImageVersion, OffsetsOutside, OffsetsNotRising, ImageOutside}
+use Rattle.capsule_grammar.specs.declared.refusal.Why.TheVariants.{Short, BadHeaderSize}
+use Rattle.capsule_grammar.specs.declared.refusal.Why.TheVariants.{BadImageSize, BadFmpVersion}
+use Rattle.capsule_grammar.specs.declared.refusal.Why.TheVariants.{BadImageVersion, OffsetsOutside}
+use Rattle.capsule_grammar.specs.declared.refusal.Why.TheVariants.{OffsetsNotRising, ImageOutside}
 
 -- ---- the capsule header
 

@@ -4,7 +4,8 @@ ghost use Rattle.std.specs.Prelude.{◌≡◌, ◌+◌, ◌≤◌, ◌<◌, ◌^
 ghost use Rattle.cu_base.specs.Refusals.{first_refusal};
 ghost use Rattle.fmp_headers.specs.CapsuleHeader.{image_size};
 ghost use Rattle.capsule_grammar.specs.Accepted.{AreBounds};
-ghost use Rattle.capsule_grammar.specs.Refusals.{Answers, refusal, fmp_rows, all_image_rows, list_end, item_count, bound, item};
+ghost use Rattle.capsule_grammar.specs.Refusals.{Answers, refusal, fmp_rows, all_image_rows};
+ghost use Rattle.capsule_grammar.specs.Refusals.{list_end, item_count, bound, item};
 
 use crate::Refusal;
 use crate::header::{check_capsule_header, is_fmp_guid};

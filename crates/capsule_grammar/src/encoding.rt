@@ -1,11 +1,13 @@
 //! Capsules that are written.
 
-ghost use Rattle.std.specs.Prelude.{◌≡◌, ◌+◌, ◌*◌, ◌≤◌, ◌<◌, ◌++◌, [], true, false, length, slice_index_or, IsTrue, IfOk, OnOk, IsErrOf};
+ghost use Rattle.std.specs.Prelude.{◌≡◌, ◌+◌, ◌*◌, ◌≤◌, ◌<◌, ◌++◌, [], true, false, length};
+ghost use Rattle.std.specs.Prelude.{slice_index_or, IsTrue, IfOk, OnOk, IsErrOf};
 ghost use Rattle.std.specs.List.{concat, flat_map};
 ghost use Rattle.cu_base.specs.Fields.{bytes_of};
 ghost use Rattle.cu_base.specs.declared.limits.TheConstants.{MAX_CAPSULE_BYTES};
 ghost use Rattle.capsule_grammar.specs.Fits.{fits, fmp_fits, image_fits, is_sized, parts_fit};
-ghost use Rattle.capsule_grammar.specs.Spelling.{body_bytes, fmp_bytes, header_of, image_bytes, item_bytes, offset_list, spelling};
+ghost use Rattle.capsule_grammar.specs.Spelling.{body_bytes, fmp_bytes, header_of, image_bytes};
+ghost use Rattle.capsule_grammar.specs.Spelling.{item_bytes, offset_list, spelling};
 ghost use Rattle.fmp_headers.specs.CapsuleHeader.{capsule_header_bytes};
 
 use crate::parts::OFFSET_BYTES;

@@ -5,7 +5,10 @@ ghost use Rattle.std.specs.Prelude.{◌≡◌, ℕ, List, ◌+◌, ◌≤◌, �
 ghost use Rattle.cu_base.specs.Refusals.{first_refusal};
 ghost use Rattle.capsule_grammar.specs.Accepted.{AreBounds};
 ghost use Rattle.capsule_grammar.specs.Fronts.{Begins};
-ghost use Rattle.capsule_grammar.specs.Refusals.{Answers, all_offset_rows, driver_count, fmp_front_rows, image_count, image_rows, item_count, list_end, offset, offset_rows, start_of};
+ghost use Rattle.capsule_grammar.specs.Refusals.{Answers, all_offset_rows, driver_count};
+ghost use Rattle.capsule_grammar.specs.Refusals.{fmp_front_rows, image_count, image_rows};
+ghost use Rattle.capsule_grammar.specs.Refusals.{item_count, list_end, offset, offset_rows};
+ghost use Rattle.capsule_grammar.specs.Refusals.{start_of};
 
 use crate::{Refusal, Why};
 use cu_base::{u16_at, u64_at};

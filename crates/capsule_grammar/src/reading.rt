@@ -5,7 +5,8 @@ ghost use Rattle.std.specs.List.{range_with_len};
 ghost use Rattle.cu_base.specs.Fields.{field};
 ghost use Rattle.capsule_grammar.specs.Accepted.{IsImageItem, IsFmpBody, IsFront};
 ghost use Rattle.capsule_grammar.specs.Reading.{image_of, fmp_of, body_read, capsule_of};
-ghost use Rattle.capsule_grammar.specs.Refusals.{is_fmp_guid, body_of, driver_count, image_count, item};
+ghost use Rattle.capsule_grammar.specs.Refusals.{is_fmp_guid, body_of, driver_count, image_count};
+ghost use Rattle.capsule_grammar.specs.Refusals.{item};
 
 use crate::accepted::{body, capsule_header, image_header, part};
 use crate::checking::{bound, item};

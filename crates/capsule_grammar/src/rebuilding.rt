@@ -1,7 +1,8 @@
 //! The capsule at the front of bytes, written again without its lead and its pads. No body is
 //! copied but into the result.
 
-ghost use Rattle.std.specs.Prelude.{◌≡◌, ◌↔◌, true, take, ◌+◌, ◌<◌, ◌≤◌, ◌++◌, ◌^◌, None, length, IfOk, IfErr, OnOk};
+ghost use Rattle.std.specs.Prelude.{◌≡◌, ◌↔◌, true, take, ◌+◌, ◌<◌, ◌≤◌, ◌++◌, ◌^◌, None, length};
+ghost use Rattle.std.specs.Prelude.{IfOk, IfErr, OnOk};
 ghost use Rattle.std.specs.List.{concat, flat_map};
 ghost use Rattle.cu_base.specs.Refusals.{AnswersBy};
 ghost use Rattle.cu_base.specs.Fields.{bytes_of};
@@ -9,8 +10,10 @@ ghost use Rattle.fmp_headers.specs.CapsuleHeader.{image_size};
 ghost use Rattle.capsule_grammar.specs.Accepted.{IsFront, IsFmpBody, IsImageItem};
 ghost use Rattle.capsule_grammar.specs.Faults.{told_by};
 ghost use Rattle.capsule_grammar.specs.Reading.{capsule_of, fmp_of};
-ghost use Rattle.capsule_grammar.specs.Rebuilt.{emptied, emptied_fmp, emptied_on, kept, kept_items, kept_list};
-ghost use Rattle.capsule_grammar.specs.Refusals.{refusal, body_of, item_count, list_end, image_parts_size};
+ghost use Rattle.capsule_grammar.specs.Rebuilt.{emptied, emptied_fmp, emptied_on, kept, kept_items};
+ghost use Rattle.capsule_grammar.specs.Rebuilt.{kept_list};
+ghost use Rattle.capsule_grammar.specs.Refusals.{refusal, body_of, item_count, list_end};
+ghost use Rattle.capsule_grammar.specs.Refusals.{image_parts_size};
 ghost use Rattle.capsule_grammar.specs.declared.value.Body.TheVariants.{Fmp};
 ghost use Rattle.capsule_grammar.specs.Spelling.{spelling, fmp_bytes, offsets};
 

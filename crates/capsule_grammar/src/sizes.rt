@@ -1,9 +1,11 @@
 //! The sizes of spellings. A size that passes 2^64 - 1 is told as that.
 
-ghost use Rattle.std.specs.Prelude.{◌≡◌, ◌+◌, ◌-◌, ◌<◌, ◌^◌, [], length, min, slice_index_or, IsTrue};
+ghost use Rattle.std.specs.Prelude.{◌≡◌, ◌+◌, ◌-◌, ◌<◌, ◌^◌, [], length, min, slice_index_or};
+ghost use Rattle.std.specs.Prelude.{IsTrue};
 ghost use Rattle.capsule_grammar.specs.Fits.{fits, fmp_fits, image_fits, parts_fit};
 ghost use Rattle.capsule_grammar.specs.Sizes.{IsSizeOf};
-ghost use Rattle.capsule_grammar.specs.Spelling.{body_bytes, fmp_bytes, header_of, image_bytes, item_bytes};
+ghost use Rattle.capsule_grammar.specs.Spelling.{body_bytes, fmp_bytes, header_of, image_bytes};
+ghost use Rattle.capsule_grammar.specs.Spelling.{item_bytes};
 
 use crate::parts::OFFSET_BYTES;
 use crate::{Body, Capsule, FmpBody, Image};

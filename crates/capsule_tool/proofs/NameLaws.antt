@@ -12,7 +12,8 @@ use Rattle.reference_machine.specs.Laws.{Distinct}
 use Rattle.reset_play.specs.Plays.{is_of_files, is_thin_on, loaded_bytes, can_play}
 use Rattle.reset_play.specs.ScriptInputs.{mention, once, has_name, inputs_of}
 use Rattle.reference_machine.specs.declared.event.Event.{Event}
-use Rattle.reference_machine.specs.declared.event.Event.TheVariants.{Time, Drop, Signal, Lay, Poke, Stage}
+use Rattle.reference_machine.specs.declared.event.Event.TheVariants.{Time, Drop, Signal, Lay, Poke}
+use Rattle.reference_machine.specs.declared.event.Event.TheVariants.{Stage}
 use Rattle.reference_machine.specs.declared.event.Event.TheVariants.{Boot, Arm, Fail, Reset, Show}
 
 -- small facts

@@ -1,6 +1,7 @@
 -- The work of a play: the board is read and parsed, then the script, then the inputs that the
 -- script names, each once in order of first mention. The first failure decides.
-use Rattle.std.specs.Prelude.{◌≡◌, ◌&&◌, not, IsTrue, ℕ, ◌+◌, nat_lt, List, [], ◌∷◌, ◌++◌, length, map, Result}
+use Rattle.std.specs.Prelude.{◌≡◌, ◌&&◌, not, IsTrue, ℕ, ◌+◌, nat_lt, List, [], ◌∷◌, ◌++◌, length}
+use Rattle.std.specs.Prelude.{map, Result}
 use Rattle.std.specs.Prelude.{Ok, Err, if◌then◌else◌}
 use Rattle.std.specs.List.{list_all}
 use Rattle.bench_model.specs.Boards.{BoardValue}

@@ -65,7 +65,8 @@ IsLongOne work named before after out out' =
 
 -- an input passes its limit; or inputs hold bytes by whose sum the work finds so, and more than the
 -- sum's limit was taken
-abbrev pub IsLong : Work → Option Named → Seen → Seen → List EntryValue → SinkSeen → SinkSeen → Type 0
+abbrev pub IsLong : Work → Option Named → Seen → Seen → List EntryValue → SinkSeen → SinkSeen
+    → Type 0
 IsLong work named before after trace out out' =
     IsLongOne work named before after out out'
     ⊎ (Judges work named 7 trace out out' × RoseBy (MAX_NAMED_BYTES + 1) before.taken after.taken)
@@ -73,7 +74,8 @@ IsLong work named before after trace out out' =
 -- one finding that the work may come to gave the text, the trace, the status and the names asked
 -- for, and only work that was done has a trace; or memory ran out before anything was found, and
 -- nothing was written
-abbrev pub EndsBy : Work → Option Named → Seen → Seen → ℕ → List EntryValue → SinkSeen → SinkSeen → Type 0
+abbrev pub EndsBy : Work → Option Named → Seen → Seen → ℕ → List EntryValue → SinkSeen → SinkSeen
+    → Type 0
 EndsBy work named before after status trace out out' =
     ((finding : Finding) × MayFind named work before after finding
     × Writes finding.answer status out out'

@@ -17,7 +17,8 @@ use Rattle.capsule_tool.specs.declared.scan.stop.ScanStop.TheVariants.{Memory}
 
 -- Some bytes came. In every part of this size that begins with those that stood before and with
 -- them, this is the first row that holds.
-abbrev pub Tells : ℕ → (List ℕ → List (Row (ℕ × Why))) → List ℕ → Progress → Progress → Option (ℕ × Why)
+abbrev pub Tells : ℕ → (List ℕ → List (Row (ℕ × Why))) → List ℕ → Progress → Progress
+    → Option (ℕ × Why)
     → Type 0
 Tells size rows before old new refused =
     (bytes : List ℕ) × Goes bytes old new × (length (before ++ bytes) ≤ size)

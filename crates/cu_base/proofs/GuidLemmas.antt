@@ -1,5 +1,6 @@
 -- The bytes of a GUID in a capsule, and its text.
-use Rattle.std.proofs.Common.{◌≡◌, ℕ, ◌<◌, List, length, All, Option, Some, None, Result, Ok, Err, ok_or, option_map, refl, sym, ap, subst, inl, ◌∙◌}
+use Rattle.std.proofs.Common.{◌≡◌, ℕ, ◌<◌, List, length, All, Option, Some, None, Result, Ok, Err}
+use Rattle.std.proofs.Common.{ok_or, option_map, refl, sym, ap, subst, inl, ◌∙◌}
 use Rattle.std.proofs.lemmas.List.Elements.{All-from_recursion}
 use Rattle.uuid.specs.Parts.{swap_fields}
 use Rattle.uuid.specs.Text.{parsed, hyphenated_text, lower}

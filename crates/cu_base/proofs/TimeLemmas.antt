@@ -1,5 +1,7 @@
 -- The bytes and the text of a moment.
-use Rattle.std.proofs.Common.{◌≡◌, ℕ, ◌+◌, ◌-◌, ◌*◌, ◌/◌, ◌%◌, ◌<◌, ◌≤◌, true, ◌&&◌, if◌then◌else◌, IsTrue, List, [], ◌∷◌, ◌++◌, length, get_or, Some, None, Ok, refl, sym, ap, subst, ◌∙◌, arith}
+use Rattle.std.proofs.Common.{◌≡◌, ℕ, ◌+◌, ◌-◌, ◌*◌, ◌/◌, ◌%◌, ◌<◌, ◌≤◌, true, ◌&&◌, if◌then◌else◌}
+use Rattle.std.proofs.Common.{IsTrue, List, [], ◌∷◌, ◌++◌, length, get_or, Some, None, Ok, refl}
+use Rattle.std.proofs.Common.{sym, ap, subst, ◌∙◌, arith}
 use Rattle.std.proofs.Math.Nat.{le_trans}
 use Rattle.std.specs.Char.{is_ascii_digit}
 use Rattle.std.specs.Int.{w16, cast_signed, cast_unsigned}
@@ -9,7 +11,8 @@ use Rattle.std.proofs.lemmas.Int.{of_z-to_z}
 use Rattle.cu_base.specs.Bytes.{IsBytes}
 use Rattle.cu_base.specs.Fields.{number, bytes_of}
 use Rattle.cu_base.specs.declared.time.EfiTime.{EfiTime}
-use Rattle.cu_base.specs.Times.{days_in, is_in_calendar, moment, time_at_front, time_bytes, time_of_text, time_text}
+use Rattle.cu_base.specs.Times.{days_in, is_in_calendar, moment, time_at_front, time_bytes}
+use Rattle.cu_base.specs.Times.{time_of_text, time_text}
 use Rattle.cu_base.proofs.Fields.{IsBytes-from, bytes_of-number}
 use Rattle.cu_base.proofs.Sixteen.{sixteen}
 

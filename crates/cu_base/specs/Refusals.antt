@@ -1,5 +1,6 @@
 -- A table of refusals: rows that are tested in order, of which the first that holds decides.
-use Rattle.std.specs.Prelude.{◌≡◌, ℕ, Bool, List, [], ◌∷◌, Option, None, Some, Result, Ok, Err, if◌then◌else◌}
+use Rattle.std.specs.Prelude.{◌≡◌, ℕ, Bool, List, [], ◌∷◌, Option, None, Some, Result, Ok, Err}
+use Rattle.std.specs.Prelude.{if◌then◌else◌}
 
 -- where the row holds, this is the refusal: a cause, or a place and a cause
 pub record Row (R : Type 0) : Type 0 where

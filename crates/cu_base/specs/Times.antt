@@ -1,5 +1,7 @@
 -- A moment, EFI_TIME (UEFI 2.10, 8.3): its 16 bytes, its text and the Gregorian calendar.
-use Rattle.std.specs.Prelude.{ℕ, ◌+◌, ◌-◌, ◌*◌, ◌/◌, ◌%◌, Bool, ◌&&◌, ◌||◌, not, ◌==◌, if◌then◌else◌, nat_le, List, [], ◌∷◌, ◌++◌, length, slice_index, pos, Option, Some, None, Result, Err, ok_or, option_and_then}
+use Rattle.std.specs.Prelude.{ℕ, ◌+◌, ◌-◌, ◌*◌, ◌/◌, ◌%◌, Bool, ◌&&◌, ◌||◌, not, ◌==◌}
+use Rattle.std.specs.Prelude.{if◌then◌else◌, nat_le, List, [], ◌∷◌, ◌++◌, length, slice_index, pos}
+use Rattle.std.specs.Prelude.{Option, Some, None, Result, Err, ok_or, option_and_then}
 use Rattle.std.specs.Char.{is_ascii_digit}
 use Rattle.std.specs.Int.{w16, cast_signed, cast_unsigned}
 use Rattle.cu_base.specs.Fields.{number_at, bytes_of}

@@ -8,7 +8,8 @@ ghost use Rattle.cu_base.specs.declared.guid.Guid.{Guid};
 ghost use Rattle.cu_base.specs.declared.limits.TheConstants.{MAX_CAPSULE_BYTES};
 ghost use Rattle.cu_base.specs.declared.time.TheConstants.{UNSPECIFIED_ZONE};
 ghost use Rattle.cu_base.specs.declared.status.TheConstants.EfiStatus as status;
-ghost use Rattle.cu_base.specs.Times.{is_in_calendar, moment, time_at_front, time_bytes, time_of_text, time_text};
+ghost use Rattle.cu_base.specs.Times.{is_in_calendar, moment, time_at_front, time_bytes};
+ghost use Rattle.cu_base.specs.Times.{time_of_text, time_text};
 
 use crate::EfiTime;
 

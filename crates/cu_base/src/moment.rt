@@ -1,7 +1,8 @@
 //! The text of a moment: its form, its numbers and the Gregorian calendar.
 
 ghost use Rattle.std.specs.Prelude.{◌≡◌, ◌+◌, ◌<◌, length, IfSome};
-ghost use Rattle.cu_base.specs.Times.{has_form, two_digits, moment_shown, is_leap, days_in, is_in_calendar};
+ghost use Rattle.cu_base.specs.Times.{has_form, two_digits, moment_shown, is_leap, days_in};
+ghost use Rattle.cu_base.specs.Times.{is_in_calendar};
 
 use crate::EfiTime;
 use crate::time::UNSPECIFIED_ZONE;

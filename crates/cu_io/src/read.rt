@@ -25,8 +25,7 @@ pub(crate) const PIECE_BYTES: usize = 65_536;
 /// `limit` bytes are left, after `limit + 1` bytes were taken. After Read and Memory a part was
 /// taken.
 pub fn read_whole<S: Source>(alloc: Global, source: &mut S, limit: u32) -> Result<Blob, ReadFault>
-    ensures ok { IfOk result (λ bytes. TakesAll limit bytes (S.seen source.old) (S.seen source.new))
-        }
+    ensures ok { IfOk result (λ bytes. TakesAll limit bytes (S.seen source.old) (S.seen source.new)) }
     ensures refused { EndsLong limit (S.seen source.old) (S.seen source.new) result }
     ensures err { OnErr result (TakesSome (limit + 1) (S.seen source.old) (S.seen source.new)) }
     ensures cause { ReadFails ReadFault.Read (S.seen source.old) (S.seen source.new) result }
@@ -59,8 +58,7 @@ fn take_piece<S: Source>(
     ensures ok { IfOk result (TakesInto all.old all.new (S.seen source.old) (S.seen source.new)) }
     ensures end { IfOk result (λ n. n ≡ 0 → 0 < length piece.old
         → IsAtEnd (S.seen source.new).left) }
-    ensures err
-        { OnErr result (TakesSome (length piece.old) (S.seen source.old) (S.seen source.new)) }
+    ensures err { OnErr result (TakesSome (length piece.old) (S.seen source.old) (S.seen source.new)) }
     ensures refused { ¬ IsErrOf result ReadFault.TooLong }
     ensures cause { ReadFails ReadFault.Read (S.seen source.old) (S.seen source.new) result }
 {

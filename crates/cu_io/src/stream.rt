@@ -55,8 +55,7 @@ impl Room {
         ensures ok { IfOk result (λ n. TakesMany n (S.seen source.old) (S.seen source.new)) }
         ensures err { OnErr result (Takes [] (S.seen source.old) (S.seen source.new)) }
         ensures refused { IsErrOf result StreamFault.Ended → IsAtEnd (S.seen source.new).left }
-        ensures cause { ReadFails StreamFault.Failed (S.seen source.old) (S.seen source.new) result
-            }
+        ensures cause { ReadFails StreamFault.Failed (S.seen source.old) (S.seen source.new) result }
     {
         take_once(source, &mut self.piece[..most])
     }

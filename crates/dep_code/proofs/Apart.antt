@@ -1,5 +1,7 @@
 -- The bytes of an operation are read back, whatever follows them.
-use Rattle.std.proofs.Common.{◌≡◌, ℕ, zero, suc, ◌+◌, ◌^◌, ◌<◌, ◌≤◌, Bool, true, false, not, ◌&&◌, cond, ◌==◌, nat_lt, IsTrue, List, [], ◌∷◌, ◌++◌, length, take, drop, Option, Some, None, refl, sym, ap, ◌∙◌, arith, append_assoc}
+use Rattle.std.proofs.Common.{◌≡◌, ℕ, zero, suc, ◌+◌, ◌^◌, ◌<◌, ◌≤◌, Bool, true, false, not, ◌&&◌}
+use Rattle.std.proofs.Common.{cond, ◌==◌, nat_lt, IsTrue, List, [], ◌∷◌, ◌++◌, length, take, drop}
+use Rattle.std.proofs.Common.{Option, Some, None, refl, sym, ap, ◌∙◌, arith, append_assoc}
 use Rattle.std.specs.List.{list_all}
 use Rattle.std.proofs.lemmas.List.{take_at, drop_at, length-append}
 use Rattle.std.proofs.lemmas.Bool.Decides.{nat_tests}
@@ -8,7 +10,9 @@ use Rattle.cu_base.specs.Refusals.{first_refusal}
 use Rattle.cu_base.proofs.Fields.{number-bytes_of}
 use Rattle.dep_code.specs.declared.limits.TheConstants.{MAX_SECTION_BYTES}
 use Rattle.dep_code.specs.declared.op.Op.{Op}
-use Rattle.dep_code.specs.declared.op.Op.TheVariants.{PushGuid, PushVersion, VersionStr, And, Or, Not, True, False, Eq, Gt, Gte, Lt, Lte, End, DeclareLength}
+use Rattle.dep_code.specs.declared.op.Op.TheVariants.{PushGuid, PushVersion, VersionStr, And, Or}
+use Rattle.dep_code.specs.declared.op.Op.TheVariants.{Not, True, False, Eq, Gt, Gte, Lt, Lte, End}
+use Rattle.dep_code.specs.declared.op.Op.TheVariants.{DeclareLength}
 use Rattle.dep_code.specs.Operations.{opcode, op_bytes, HasForm, is_nonzero, is_declare}
 use Rattle.dep_code.specs.Refusals.{first_byte, op_size, text_size, place_rows}
 use Rattle.dep_code.specs.Sections.{may_follow}
@@ -108,7 +112,8 @@ same_op x y r s hx hy e =
     ap (λ (o : Op). length (op_bytes o)) same in (
       same,
       sym (drop_at (op_bytes x) r (length (op_bytes x)) refl)
-          ∙ ap (drop (length (op_bytes x))) e ∙ drop_at (op_bytes y) s (length (op_bytes x)) (sym long),
+          ∙ ap (drop (length (op_bytes x))) e
+          ∙ drop_at (op_bytes y) s (length (op_bytes x)) (sym long),
     )
 
 -- no row holds at an operation that keeps the rules

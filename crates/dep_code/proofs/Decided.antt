@@ -1,5 +1,7 @@
 -- Bytes begin with a section or are refused: read from the front.
-use Rattle.std.proofs.Common.{◌≡◌, ℕ, zero, suc, ◌+◌, ◌-◌, ◌^◌, ◌<◌, ◌≤◌, ◌⊎◌, inl, inr, Bool, true, false, List, [], ◌∷◌, ◌++◌, length, take, drop, Option, Some, None, refl, sym, ap, subst, ◌∙◌, arith}
+use Rattle.std.proofs.Common.{◌≡◌, ℕ, zero, suc, ◌+◌, ◌-◌, ◌^◌, ◌<◌, ◌≤◌, ◌⊎◌, inl, inr, Bool, true}
+use Rattle.std.proofs.Common.{false, List, [], ◌∷◌, ◌++◌, length, take, drop, Option, Some, None}
+use Rattle.std.proofs.Common.{refl, sym, ap, subst, ◌∙◌, arith}
 use Rattle.std.proofs.lemmas.List.{length-take}
 use Rattle.cu_base.specs.Bytes.{IsBytes}
 use Rattle.cu_base.specs.Fields.{number}
@@ -10,11 +12,13 @@ use Rattle.dep_code.specs.declared.op.Op.{Op}
 use Rattle.dep_code.specs.declared.fault.DepWhy.{DepWhy}
 use Rattle.dep_code.specs.Operations.{op_bytes, section_bytes, HasForm, is_end}
 use Rattle.dep_code.specs.Reading.{EndsAt}
-use Rattle.dep_code.specs.Refusals.{op_size, text_size, place_rows, section_rows, IsFront, IsRefused}
+use Rattle.dep_code.specs.Refusals.{op_size, text_size, place_rows, section_rows, IsFront}
+use Rattle.dep_code.specs.Refusals.{IsRefused}
 use Rattle.dep_code.specs.Sections.{StandsAtFront, ops_of, placed}
 use Rattle.dep_code.proofs.Apart.{read_front}
 use Rattle.dep_code.proofs.Bytes.{version_op, declare_op, text_op, text_nonzero}
-use Rattle.dep_code.proofs.Fronts.{Keeps, keeps, not_longer, front_next, place_more, places_more, ended, there_is}
+use Rattle.dep_code.proofs.Fronts.{Keeps, keeps, not_longer, front_next, place_more, places_more}
+use Rattle.dep_code.proofs.Fronts.{ended, there_is}
 use Rattle.dep_code.proofs.Wholes.{ends_wrong, front_section}
 
 four_below : (bytes : List ℕ) → IsBytes bytes → 4 ≤ length bytes → number (take 4 bytes) < 2 ^ 32
@@ -132,7 +136,8 @@ row_decided bytes items at (Some r) e h next =
             ops = ops_of items;
             rest = drop at bytes;
             front = h.front;
-            refused = ap (λ (n : ℕ). first_refusal (place_rows (drop at bytes) n)) (sym h.place) ∙ e;
+            refused = ap (λ (n : ℕ). first_refusal (place_rows (drop at bytes) n)) (sym h.place)
+                ∙ e;
           }),
     )
 

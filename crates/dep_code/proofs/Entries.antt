@@ -1,12 +1,15 @@
 -- Stacks of operands and trees: what the operations of a section build.
-use Rattle.std.proofs.Common.{◌≡◌, true, List, [], ◌∷◌, ◌++◌, map, Option, Some, None, refl, sym, ap, ◌∙◌, append_assoc}
+use Rattle.std.proofs.Common.{◌≡◌, true, List, [], ◌∷◌, ◌++◌, map, Option, Some, None, refl, sym}
+use Rattle.std.proofs.Common.{ap, ◌∙◌, append_assoc}
 use Rattle.std.specs.Option.{option_and_then, option_map, IfSome}
 use Rattle.std.proofs.lemmas.List.{append-nil}
 use Rattle.std.proofs.lemmas.List.Elements.{filter-append}
 use Rattle.dep_code.specs.declared.kind.Kind.{Kind}
 use Rattle.dep_code.specs.declared.kind.Kind.TheVariants.{Number, Truth}
 use Rattle.dep_code.specs.declared.op.Op.{Op}
-use Rattle.dep_code.specs.declared.op.Op.TheVariants.{PushGuid, PushVersion, VersionStr, And, Or, Not, True, False, Eq, Gt, Gte, Lt, Lte, End, DeclareLength}
+use Rattle.dep_code.specs.declared.op.Op.TheVariants.{PushGuid, PushVersion, VersionStr, And, Or}
+use Rattle.dep_code.specs.declared.op.Op.TheVariants.{Not, True, False, Eq, Gt, Gte, Lt, Lte, End}
+use Rattle.dep_code.specs.declared.op.Op.TheVariants.{DeclareLength}
 use Rattle.dep_code.specs.declared.tree.CompareKind.{CompareKind}
 use Rattle.dep_code.specs.declared.tree.CompareKind.TheVariants as kinds
 use Rattle.dep_code.specs.declared.tree.Compared.{Compared}
@@ -15,7 +18,8 @@ use Rattle.dep_code.specs.Operations.{computes, computing}
 use Rattle.dep_code.specs.Tree as tree
 use Rattle.dep_code.specs.Tree.{Tree}
 use Rattle.dep_code.specs.Trees.{push, comparison, post, IsTreeOf}
-use Rattle.dep_code.specs.Building.{Entry, Operand, Subtree, negated, joined, compared_by, entries_behind, entries_after}
+use Rattle.dep_code.specs.Building.{Entry, Operand, Subtree, negated, joined, compared_by}
+use Rattle.dep_code.specs.Building.{entries_behind, entries_after}
 use Rattle.dep_code.specs.Typing.{stack_behind, stack_after, is_one_truth}
 
 -- the kind of an entry

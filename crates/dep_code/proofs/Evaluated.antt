@@ -1,5 +1,7 @@
 -- The values on the stack are those of the entries.
-use Rattle.std.proofs.Common.{◌≡◌, ℕ, ◌+◌, Bool, true, false, ◌&&◌, ◌||◌, List, [], ◌∷◌, ◌++◌, map, length, take, Option, Some, None, IsSome, Result, Ok, Err, IfOk, refl, sym, ap, subst, ◌∙◌}
+use Rattle.std.proofs.Common.{◌≡◌, ℕ, ◌+◌, Bool, true, false, ◌&&◌, ◌||◌, List, [], ◌∷◌, ◌++◌, map}
+use Rattle.std.proofs.Common.{length, take, Option, Some, None, IsSome, Result, Ok, Err, IfOk, refl}
+use Rattle.std.proofs.Common.{sym, ap, subst, ◌∙◌}
 use Rattle.std.specs.List.{list_all}
 use Rattle.std.specs.Option.{option_map}
 use Rattle.std.proofs.lemmas.List.Folds.{list_all-append, list_all-map}
@@ -8,13 +10,17 @@ use Rattle.cu_base.specs.declared.guid.Guid.{Guid}
 use Rattle.dep_code.specs.declared.evaluation.Value.{Value}
 use Rattle.dep_code.specs.declared.evaluation.Value.TheVariants.{Number, Truth}
 use Rattle.dep_code.specs.declared.op.Op.{Op}
-use Rattle.dep_code.specs.declared.op.Op.TheVariants.{PushGuid, PushVersion, VersionStr, And, Or, Not, True, False, Eq, Gt, Gte, Lt, Lte, End, DeclareLength}
+use Rattle.dep_code.specs.declared.op.Op.TheVariants.{PushGuid, PushVersion, VersionStr, And, Or}
+use Rattle.dep_code.specs.declared.op.Op.TheVariants.{Not, True, False, Eq, Gt, Gte, Lt, Lte, End}
+use Rattle.dep_code.specs.declared.op.Op.TheVariants.{DeclareLength}
 use Rattle.dep_code.specs.declared.tree.CompareKind.{CompareKind}
 use Rattle.dep_code.specs.declared.tree.CompareKind.TheVariants as kinds
 use Rattle.dep_code.specs.declared.tree.Compared.{Compared}
 use Rattle.dep_code.specs.declared.tree.Compared.TheVariants as compared
-use Rattle.dep_code.specs.Building.{Entry, Operand, Subtree, negated, joined, compared_by, entries_behind, entries_after}
-use Rattle.dep_code.specs.Evaluation.{knows, negated_value, joined_values, compared_values, values_behind}
+use Rattle.dep_code.specs.Building.{Entry, Operand, Subtree, negated, joined, compared_by}
+use Rattle.dep_code.specs.Building.{entries_behind, entries_after}
+use Rattle.dep_code.specs.Evaluation.{knows, negated_value, joined_values, compared_values}
+use Rattle.dep_code.specs.Evaluation.{values_behind}
 use Rattle.dep_code.specs.Operations.{computing}
 use Rattle.dep_code.specs.Sections.{ArePlaced, ops_of}
 use Rattle.dep_code.specs.Tree as tree

@@ -1,8 +1,12 @@
 -- Operations one behind another from the front of bytes.
-use Rattle.std.proofs.Common.{◌≡◌, ℕ, zero, suc, ◌+◌, ◌<◌, ◌≤◌, Bool, true, false, not, ◌&&◌, cond, ◌==◌, nat_lt, List, [], ◌∷◌, ◌++◌, length, take, drop, Option, Some, None, Err, inl, refl, sym, ap, subst, ◌∙◌, arith, append_assoc, add-zero, zero-add}
+use Rattle.std.proofs.Common.{◌≡◌, ℕ, zero, suc, ◌+◌, ◌<◌, ◌≤◌, Bool, true, false, not, ◌&&◌, cond}
+use Rattle.std.proofs.Common.{◌==◌, nat_lt, List, [], ◌∷◌, ◌++◌, length, take, drop, Option, Some}
+use Rattle.std.proofs.Common.{None, Err, inl, refl, sym, ap, subst, ◌∙◌, arith, append_assoc}
+use Rattle.std.proofs.Common.{add-zero, zero-add}
 use Rattle.std.specs.List.{list_all, AllByRecursion}
 use Rattle.std.proofs.lemmas.Grind.{flat_map-append}
-use Rattle.std.proofs.lemmas.List.{map_push, length-append, length-take, take-append-drop, take_at, drop-drop, append-nil}
+use Rattle.std.proofs.lemmas.List.{map_push, length-append, length-take, take-append-drop, take_at}
+use Rattle.std.proofs.lemmas.List.{drop-drop, append-nil}
 use Rattle.std.proofs.lemmas.List.Folds.{list_all-append}
 use Rattle.std.proofs.lemmas.Bool.{and_from}
 use Rattle.std.proofs.lemmas.Bool.Decides.{nat_tests}
@@ -124,8 +128,13 @@ front_more ops op rest bytes size h none spelled is form goes =
     let there : size ≤ length rest = omega (arith, not_longer _ _ keep.there) in
     record {
       kept = before_more ops op rest h.kept form goes (head_of _ _ rest size spelled) keep;
-      within = omega
-          (arith, not_longer _ _ keep.within, op_length op rest size spelled there, length_more ops op);
+      within = omega (
+        arith,
+        not_longer _ _ keep.within,
+        op_length op rest size spelled there,
+        length_more ops
+            op,
+      );
       whole = whole_more ops op rest bytes size h.whole spelled;
     }
 

@@ -1,5 +1,7 @@
 -- Sections and refusals, against each other.
-use Rattle.std.proofs.Common.{◌≡◌, ℕ, ◌+◌, ◌≤◌, inl, inr, true, not, List, [], ◌∷◌, ◌++◌, length, take, drop, Option, Some, None, IsSome, Result, Ok, Err, IfOk, IfErr, refl, sym, ap, ◌∙◌, arith, append_assoc, zero-add}
+use Rattle.std.proofs.Common.{◌≡◌, ℕ, ◌+◌, ◌≤◌, inl, inr, true, not, List, [], ◌∷◌, ◌++◌, length}
+use Rattle.std.proofs.Common.{take, drop, Option, Some, None, IsSome, Result, Ok, Err, IfOk, IfErr}
+use Rattle.std.proofs.Common.{refl, sym, ap, ◌∙◌, arith, append_assoc, zero-add}
 use Rattle.std.specs.Option.{option_and_then, option_map, is_some}
 use Rattle.std.proofs.lemmas.List.{length-take, take-append-drop}
 use Rattle.cu_base.specs.Refusals.{first_refusal}
@@ -11,7 +13,8 @@ use Rattle.dep_code.specs.declared.fault.DepRefusal.TheVariants.{Dep, Memory}
 use Rattle.dep_code.specs.declared.fault.DepWhy.{DepWhy}
 use Rattle.dep_code.specs.Building.{Entry, Subtree, entries_after}
 use Rattle.dep_code.specs.Operations.{op_bytes, section_bytes}
-use Rattle.dep_code.specs.Refusals.{place_rows, type_row, type_rows, section_rows, BreaksOff, EndsWrong, IsRefused, IsRefusalOf, IsFound}
+use Rattle.dep_code.specs.Refusals.{place_rows, type_row, type_rows, section_rows, BreaksOff}
+use Rattle.dep_code.specs.Refusals.{EndsWrong, IsRefused, IsRefusalOf, IsFound}
 use Rattle.dep_code.specs.Sections.{IsSection, AreBeforeEnd, StandsAtFront, ops_of, placed}
 use Rattle.dep_code.specs.Tree.{Tree}
 use Rattle.dep_code.specs.Trees.{IsTreeOf}

@@ -1,5 +1,7 @@
 -- The stack of kinds, and the rows of types.
-use Rattle.std.proofs.Common.{◌≡◌, ℕ, zero, suc, ◌+◌, ◌-◌, ◌<◌, true, false, not, cond, List, [], ◌∷◌, ◌++◌, length, get_or, take, Option, Some, None, refl, sym, ap, ◌∙◌, arith, add-zero, zero-add, below_more}
+use Rattle.std.proofs.Common.{◌≡◌, ℕ, zero, suc, ◌+◌, ◌-◌, ◌<◌, true, false, not, cond, List, []}
+use Rattle.std.proofs.Common.{◌∷◌, ◌++◌, length, get_or, take, Option, Some, None, refl, sym, ap}
+use Rattle.std.proofs.Common.{◌∙◌, arith, add-zero, zero-add, below_more}
 use Rattle.std.specs.Option.{option_and_then, is_some}
 use Rattle.std.proofs.lemmas.List.{take_more, get_or-map, length-append, take_all}
 use Rattle.cu_base.specs.Refusals.{first_refusal}
@@ -11,7 +13,8 @@ use Rattle.dep_code.specs.declared.fault.DepWhy.TheVariants.{BadTypes, NotOneBoo
 use Rattle.dep_code.specs.Operations.{op_bytes, section_bytes}
 use Rattle.dep_code.specs.Refusals.{type_row, type_rows, place_of}
 use Rattle.dep_code.specs.Sections.{ops_of, placed}
-use Rattle.dep_code.specs.Typing.{without, is_one_truth, leaves_one_truth, stack_behind, stack_after, is_typed}
+use Rattle.dep_code.specs.Typing.{without, is_one_truth, leaves_one_truth, stack_behind}
+use Rattle.dep_code.specs.Typing.{stack_after, is_typed}
 
 pub no_truth : (stack : List Kind) → without (Truth ∷ []) stack ≡ None
     → false ≡ is_one_truth (Some stack)

@@ -1,5 +1,7 @@
 -- Operations up to END, as a whole.
-use Rattle.std.proofs.Common.{◌≡◌, ℕ, ◌<◌, Bool, true, false, not, cond, List, [], ◌∷◌, ◌++◌, length, take, drop, Option, Some, None, Result, Err, inr, map, refl, sym, ap, ◌∙◌, arith, append_assoc}
+use Rattle.std.proofs.Common.{◌≡◌, ℕ, ◌<◌, Bool, true, false, not, cond, List, [], ◌∷◌, ◌++◌}
+use Rattle.std.proofs.Common.{length, take, drop, Option, Some, None, Result, Err, inr, map, refl}
+use Rattle.std.proofs.Common.{sym, ap, ◌∙◌, arith, append_assoc}
 use Rattle.std.proofs.lemmas.List.{take-append-drop, length-append, length-take}
 use Rattle.std.specs.List.{range_with_len, list_all}
 use Rattle.std.proofs.lemmas.List.Folds.{list_all-map}
@@ -13,8 +15,10 @@ use Rattle.dep_code.specs.declared.fault.DepWhy.{DepWhy}
 use Rattle.dep_code.specs.declared.fault.DepWhy.TheVariants.{WrongDeclare}
 use Rattle.dep_code.specs.Operations.{section_bytes}
 use Rattle.dep_code.specs.Reading.{EndsAt}
-use Rattle.dep_code.specs.Refusals.{Answers, IsRefused, IsRefusalOf, section_rows, type_row, type_rows}
-use Rattle.dep_code.specs.Sections.{IsSection, StandsAtFront, ArePlaced, is_declared, may_declare, ops_of}
+use Rattle.dep_code.specs.Refusals.{Answers, IsRefused, IsRefusalOf, section_rows, type_row}
+use Rattle.dep_code.specs.Refusals.{type_rows}
+use Rattle.dep_code.specs.Sections.{IsSection, StandsAtFront, ArePlaced, is_declared, may_declare}
+use Rattle.dep_code.specs.Sections.{ops_of}
 use Rattle.dep_code.specs.Tree.{Tree}
 use Rattle.dep_code.specs.Typing.{leaves_one_truth}
 use Rattle.dep_code.proofs.Entries.{tree_stands}

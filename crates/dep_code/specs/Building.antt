@@ -1,9 +1,12 @@
 -- What the operations of a section build: a stack of operands of comparisons and of trees.
-use Rattle.std.specs.Prelude.{Bool, true, false, List, [], ◌∷◌, map, Option, Some, None, option_and_then}
+use Rattle.std.specs.Prelude.{Bool, true, false, List, [], ◌∷◌, map, Option, Some, None}
+use Rattle.std.specs.Prelude.{option_and_then}
 use Rattle.dep_code.specs.declared.building.Entry.{Entry as CodeEntry}
 use Rattle.dep_code.specs.declared.building.Entry.TheVariants as code
 use Rattle.dep_code.specs.declared.op.Op.{Op}
-use Rattle.dep_code.specs.declared.op.Op.TheVariants.{PushGuid, PushVersion, VersionStr, And, Or, Not, True, False, Eq, Gt, Gte, Lt, Lte, End, DeclareLength}
+use Rattle.dep_code.specs.declared.op.Op.TheVariants.{PushGuid, PushVersion, VersionStr, And, Or}
+use Rattle.dep_code.specs.declared.op.Op.TheVariants.{Not, True, False, Eq, Gt, Gte, Lt, Lte, End}
+use Rattle.dep_code.specs.declared.op.Op.TheVariants.{DeclareLength}
 use Rattle.dep_code.specs.declared.tree.CompareKind.{CompareKind}
 use Rattle.dep_code.specs.declared.tree.CompareKind.TheVariants as kinds
 use Rattle.dep_code.specs.declared.tree.Compared.{Compared}

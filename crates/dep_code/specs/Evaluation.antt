@@ -1,11 +1,14 @@
 -- What the operations of a section compute over a list of versions: a stack of numbers and truth
 -- values.
-use Rattle.std.specs.Prelude.{ℕ, Bool, true, false, not, ◌&&◌, ◌||◌, List, [], ◌∷◌, Option, Some, None, is_some}
+use Rattle.std.specs.Prelude.{ℕ, Bool, true, false, not, ◌&&◌, ◌||◌, List, [], ◌∷◌, Option, Some}
+use Rattle.std.specs.Prelude.{None, is_some}
 use Rattle.cu_base.specs.declared.guid.Guid.{Guid}
 use Rattle.dep_code.specs.declared.evaluation.Value.{Value}
 use Rattle.dep_code.specs.declared.evaluation.Value.TheVariants.{Number, Truth}
 use Rattle.dep_code.specs.declared.op.Op.{Op}
-use Rattle.dep_code.specs.declared.op.Op.TheVariants.{PushGuid, PushVersion, VersionStr, And, Or, Not, True, False, Eq, Gt, Gte, Lt, Lte, End, DeclareLength}
+use Rattle.dep_code.specs.declared.op.Op.TheVariants.{PushGuid, PushVersion, VersionStr, And, Or}
+use Rattle.dep_code.specs.declared.op.Op.TheVariants.{Not, True, False, Eq, Gt, Gte, Lt, Lte, End}
+use Rattle.dep_code.specs.declared.op.Op.TheVariants.{DeclareLength}
 use Rattle.dep_code.specs.declared.tree.CompareKind.{CompareKind}
 use Rattle.dep_code.specs.declared.tree.CompareKind.TheVariants as kinds
 use Rattle.dep_code.specs.declared.tree.Compared.TheVariants as compared

@@ -1,6 +1,8 @@
 -- When bytes are refused as a dependency section: at the first place where an operation breaks a
 -- rule, and where none does, by what the operations up to END say together (UEFI 2.10, 23.2).
-use Rattle.std.specs.Prelude.{◌≡◌, ℕ, ◌+◌, ◌-◌, ◌≤◌, ◌⊎◌, ◌||◌, ◌&&◌, not, List, [], ◌∷◌, ◌++◌, length, take, drop, map, slice_index, nat_lt, ◌==◌, if◌then◌else◌, Option, None, Some, Result, Ok, Err}
+use Rattle.std.specs.Prelude.{◌≡◌, ℕ, ◌+◌, ◌-◌, ◌≤◌, ◌⊎◌, ◌||◌, ◌&&◌, not, List, [], ◌∷◌, ◌++◌}
+use Rattle.std.specs.Prelude.{length, take, drop, map, slice_index, nat_lt, ◌==◌, if◌then◌else◌}
+use Rattle.std.specs.Prelude.{Option, None, Some, Result, Ok, Err}
 use Rattle.std.specs.List.{range_with_len, prefix_len}
 use Rattle.cu_base.specs.Refusals.{Row, row_at, first_refusal, AnswersBy}
 use Rattle.dep_code.specs.declared.limits.TheConstants.{MAX_SECTION_BYTES}
@@ -9,7 +11,9 @@ use Rattle.dep_code.specs.declared.op.Op.TheVariants.{End}
 use Rattle.dep_code.specs.declared.fault.DepRefusal.{DepRefusal}
 use Rattle.dep_code.specs.declared.fault.DepRefusal.TheVariants.{Dep, Memory}
 use Rattle.dep_code.specs.declared.fault.DepWhy.{DepWhy}
-use Rattle.dep_code.specs.declared.fault.DepWhy.TheVariants.{NoEnd, BadOpcode, CutOperand, LateDeclare, WrongDeclare, BadTypes, NotOneBool, TooLong}
+use Rattle.dep_code.specs.declared.fault.DepWhy.TheVariants.{NoEnd, BadOpcode, CutOperand}
+use Rattle.dep_code.specs.declared.fault.DepWhy.TheVariants.{LateDeclare, WrongDeclare, BadTypes}
+use Rattle.dep_code.specs.declared.fault.DepWhy.TheVariants.{NotOneBool, TooLong}
 use Rattle.dep_code.specs.Operations.{section_bytes, is_nonzero}
 use Rattle.dep_code.specs.Sections.{AreBeforeEnd, is_declared}
 use Rattle.dep_code.specs.Typing.{is_typed, leaves_one_truth}

@@ -1,11 +1,14 @@
 -- When bytes are a dependency section (UEFI 2.10, 23.2): they are operations that end with END and
 -- are the postfix form of a tree. Its limit, and what DECLARE_LENGTH says and where it stands, are
 -- this tool's own.
-use Rattle.std.specs.Prelude.{◌≡◌, ℕ, ◌+◌, ◌≤◌, Bool, true, not, IsTrue, List, [], ◌∷◌, ◌++◌, length, take, drop, map, ◌==◌}
+use Rattle.std.specs.Prelude.{◌≡◌, ℕ, ◌+◌, ◌≤◌, Bool, true, not, IsTrue, List, [], ◌∷◌, ◌++◌}
+use Rattle.std.specs.Prelude.{length, take, drop, map, ◌==◌}
 use Rattle.std.specs.List.{list_all, AllByRecursion}
 use Rattle.dep_code.specs.declared.limits.TheConstants.{MAX_SECTION_BYTES}
 use Rattle.dep_code.specs.declared.op.Op.{Op}
-use Rattle.dep_code.specs.declared.op.Op.TheVariants.{PushGuid, PushVersion, VersionStr, And, Or, Not, True, False, Eq, Gt, Gte, Lt, Lte, End, DeclareLength}
+use Rattle.dep_code.specs.declared.op.Op.TheVariants.{PushGuid, PushVersion, VersionStr, And, Or}
+use Rattle.dep_code.specs.declared.op.Op.TheVariants.{Not, True, False, Eq, Gt, Gte, Lt, Lte, End}
+use Rattle.dep_code.specs.declared.op.Op.TheVariants.{DeclareLength}
 use Rattle.dep_code.specs.Operations.{op_bytes, section_bytes, HasForm, is_end, is_declare}
 use Rattle.dep_code.specs.Tree.{Tree}
 use Rattle.dep_code.specs.Trees.{IsTreeOf}

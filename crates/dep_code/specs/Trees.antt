@@ -2,7 +2,8 @@
 -- is the one that is pushed last and popped first: that is this tool's own.
 use Rattle.std.specs.Prelude.{◌≡◌, List, [], ◌∷◌, ◌++◌}
 use Rattle.dep_code.specs.declared.op.Op.{Op}
-use Rattle.dep_code.specs.declared.op.Op.TheVariants.{PushGuid, PushVersion, And, Or, Not, True, False, Eq, Gt, Gte, Lt, Lte}
+use Rattle.dep_code.specs.declared.op.Op.TheVariants.{PushGuid, PushVersion, And, Or, Not, True}
+use Rattle.dep_code.specs.declared.op.Op.TheVariants.{False, Eq, Gt, Gte, Lt, Lte}
 use Rattle.dep_code.specs.declared.tree.CompareKind.{CompareKind}
 use Rattle.dep_code.specs.declared.tree.CompareKind.TheVariants as kinds
 use Rattle.dep_code.specs.declared.tree.Compared.{Compared}

@@ -1,7 +1,8 @@
 //! The tree of a section.
 
 ghost use Rattle.std.specs.Prelude.{◌≡◌, ◌∷◌, Some, IsSome, IsTrue, IfOk, OnOk};
-ghost use Rattle.dep_code.specs.Building.{Operand, Subtree, compared_by, entries_behind, entries_seen, has_operand, has_tree, negated};
+ghost use Rattle.dep_code.specs.Building.{Operand, Subtree, compared_by, entries_behind};
+ghost use Rattle.dep_code.specs.Building.{entries_seen, has_operand, has_tree, negated};
 ghost use Rattle.dep_code.specs.Sections.{ArePlaced, ops_of};
 ghost use Rattle.dep_code.specs.Trees.{IsTreeOf, seen};
 

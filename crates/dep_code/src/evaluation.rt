@@ -2,7 +2,8 @@
 
 ghost use Rattle.std.specs.Prelude.{◌≡◌, ◌∷◌, Bool, Some, IsSome, IsTrue, IfOk, OnOk};
 ghost use Rattle.std.specs.List.{list_all};
-ghost use Rattle.dep_code.specs.Evaluation.{compared_values, has_number, has_truth, knows, negated_value, values_behind};
+ghost use Rattle.dep_code.specs.Evaluation.{compared_values, has_number, has_truth, knows};
+ghost use Rattle.dep_code.specs.Evaluation.{negated_value, values_behind};
 ghost use Rattle.dep_code.specs.Sections.{ArePlaced, ops_of};
 ghost use Rattle.dep_code.specs.Tree.{Tree};
 ghost use Rattle.dep_code.specs.Trees.{IsTreeOf};

@@ -1,10 +1,12 @@
 //! The operations at the front of bytes, one by one, up to END.
 
-ghost use Rattle.std.specs.Prelude.{◌≡◌, ◌==◌, ℕ, ◌+◌, ◌≤◌, ◌<◌, [], ◌∷◌, IfOk, IfErr, length, take, true};
+ghost use Rattle.std.specs.Prelude.{◌≡◌, ◌==◌, ℕ, ◌+◌, ◌≤◌, ◌<◌, [], ◌∷◌, IfOk, IfErr, length};
+ghost use Rattle.std.specs.Prelude.{take, true};
 ghost use Rattle.cu_base.specs.Refusals.{first_refusal};
 ghost use Rattle.dep_code.specs.Operations.{HasForm, is_end, op_bytes};
 ghost use Rattle.dep_code.specs.Reading.{EndsAt};
-ghost use Rattle.dep_code.specs.Refusals.{Answers, IsRefusalOf, first_byte, op_size, place_rows, text_size};
+ghost use Rattle.dep_code.specs.Refusals.{Answers, IsRefusalOf, first_byte, op_size, place_rows};
+ghost use Rattle.dep_code.specs.Refusals.{text_size};
 
 use crate::{DepRefusal, DepWhy, MAX_SECTION_BYTES, Op};
 use cu_base::{Blob, Items, NoMemory, guid_at, u32_at};

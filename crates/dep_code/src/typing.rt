@@ -1,6 +1,7 @@
 //! Whether each operation finds its operands on the stack, and END finds one truth value there.
 
-ghost use Rattle.std.specs.Prelude.{◌≡◌, ℕ, ◌<◌, List, [], ◌∷◌, ◌++◌, length, None, Some, IfOk, OnOk, MatchBool};
+ghost use Rattle.std.specs.Prelude.{◌≡◌, ℕ, ◌<◌, List, [], ◌∷◌, ◌++◌, length, None, Some, IfOk};
+ghost use Rattle.std.specs.Prelude.{OnOk, MatchBool};
 ghost use Rattle.cu_base.specs.Refusals.{first_refusal};
 ghost use Rattle.dep_code.specs.declared.kind.Kind.{Kind};
 ghost use Rattle.dep_code.specs.Refusals.{Answers, type_rows};

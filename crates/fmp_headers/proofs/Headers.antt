@@ -1,18 +1,24 @@
 -- The capsule header and the FMP header: what is written is read again, and what is read is written
 -- back.
-use Rattle.std.proofs.Common.{◌≡◌, ℕ, ◌≤◌, List, [], ◌++◌, length, take, Option, Some, None, Ok, refl, sym, ap, subst, ◌∙◌, arith, append_assoc, length-append}
-use Rattle.std.proofs.lemmas.Bool.{ltb-false, le-ltb, or_parts, or_from, eqb-true, eq-eqb, not-false, not_from_true}
+use Rattle.std.proofs.Common.{◌≡◌, ℕ, ◌≤◌, List, [], ◌++◌, length, take, Option, Some, None, Ok}
+use Rattle.std.proofs.Common.{refl, sym, ap, subst, ◌∙◌, arith, append_assoc, length-append}
+use Rattle.std.proofs.lemmas.Bool.{ltb-false, le-ltb, or_parts, or_from, eqb-true, eq-eqb}
+use Rattle.std.proofs.lemmas.Bool.{not-false, not_from_true}
 use Rattle.cu_base.specs.Fields.{field, number_at, bytes_of}
 use Rattle.cu_base.specs.Refusals.{first_refusal}
 use Rattle.cu_base.specs.declared.limits.TheConstants.{MAX_CAPSULE_BYTES}
 use Rattle.cu_base.specs.Bytes.{IsBytes}
-use Rattle.fmp_headers.specs.CapsuleHeader.{capsule_header, capsule_header_rows, capsule_header_fields, capsule_header_bytes, header_or, IsCapsuleHeader}
-use Rattle.fmp_headers.specs.FmpHeader.{fmp_header, fmp_header_rows, fmp_header_fields, fmp_header_bytes, IsFmpHeader}
+use Rattle.fmp_headers.specs.CapsuleHeader.{capsule_header, capsule_header_rows}
+use Rattle.fmp_headers.specs.CapsuleHeader.{capsule_header_fields, capsule_header_bytes, header_or}
+use Rattle.fmp_headers.specs.CapsuleHeader.{IsCapsuleHeader}
+use Rattle.fmp_headers.specs.FmpHeader.{fmp_header, fmp_header_rows, fmp_header_fields}
+use Rattle.fmp_headers.specs.FmpHeader.{fmp_header_bytes, IsFmpHeader}
 use Rattle.fmp_headers.specs.declared.capsule.CapsuleHeader.{CapsuleHeader}
 use Rattle.fmp_headers.specs.declared.fmp.FmpHeader.{FmpHeader}
 use Rattle.fmp_headers.specs.declared.faults.HeaderFault.{HeaderFault}
 use Rattle.cu_base.proofs.Rows.{passed, none_refused}
-use Rattle.cu_base.proofs.Fields.{length-bytes_of, length-field, number_at_in, field_in, number_at-below, next_number}
+use Rattle.cu_base.proofs.Fields.{length-bytes_of, length-field, number_at_in, field_in}
+use Rattle.cu_base.proofs.Fields.{number_at-below, next_number}
 
 pub header_or_ok : {H : Type 0} (refusal : Option HeaderFault) (x h : H)
     → header_or refusal x ≡ Ok h → (refusal ≡ None) × (x ≡ h)

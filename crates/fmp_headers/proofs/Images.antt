@@ -1,15 +1,22 @@
 -- The image header: what is written is read again, and what is read is written back.
-use Rattle.std.proofs.Common.{◌≡◌, ℕ, ◌+◌, ◌^◌, ◌<◌, ◌≤◌, true, false, cond, not, ◌&&◌, ◌||◌, eqb, List, [], ◌∷◌, ◌++◌, length, get_or, take, None, Ok, refl, sym, ap, subst, ◌∙◌, ◌⊎◌, inl, inr, arith, append_assoc, length-append}
-use Rattle.std.proofs.lemmas.Bool.{ltb-false, le-ltb, or_cases, both_ways, and_parts, eqb-true, not-false, not-true, not_from_true, cond-true, cond-false, cases_Bool}
+use Rattle.std.proofs.Common.{◌≡◌, ℕ, ◌+◌, ◌^◌, ◌<◌, ◌≤◌, true, false, cond, not, ◌&&◌, ◌||◌, eqb}
+use Rattle.std.proofs.Common.{List, [], ◌∷◌, ◌++◌, length, get_or, take, None, Ok, refl, sym, ap}
+use Rattle.std.proofs.Common.{subst, ◌∙◌, ◌⊎◌, inl, inr, arith, append_assoc, length-append}
+use Rattle.std.proofs.lemmas.Bool.{ltb-false, le-ltb, or_cases, both_ways, and_parts, eqb-true}
+use Rattle.std.proofs.lemmas.Bool.{not-false, not-true, not_from_true, cond-true, cond-false}
+use Rattle.std.proofs.lemmas.Bool.{cases_Bool}
 use Rattle.std.proofs.lemmas.List.{append-nil, get_or_at}
 use Rattle.cu_base.specs.Fields.{field, number_at, bytes_of}
 use Rattle.cu_base.specs.Refusals.{first_refusal}
 use Rattle.cu_base.specs.Bytes.{IsBytes}
-use Rattle.fmp_headers.specs.ImageHeader.{image_header, image_header_rows, image_header_fields, image_header_bytes, image_header_size, image_version, is_image_version, keeps_version_rules, IsImageHeader}
+use Rattle.fmp_headers.specs.ImageHeader.{image_header, image_header_rows, image_header_fields}
+use Rattle.fmp_headers.specs.ImageHeader.{image_header_bytes, image_header_size, image_version}
+use Rattle.fmp_headers.specs.ImageHeader.{is_image_version, keeps_version_rules, IsImageHeader}
 use Rattle.fmp_headers.specs.declared.image.ImageHeader.{ImageHeader}
 use Rattle.cu_base.proofs.Rows.{passed, none_refused}
 use Rattle.fmp_headers.proofs.Headers.{header_or_ok, header_given}
-use Rattle.cu_base.proofs.Fields.{length-bytes_of, length-field, number_at_in, field_in, number_at-below, next_number, next_field, next_byte}
+use Rattle.cu_base.proofs.Fields.{length-bytes_of, length-field, number_at_in, field_in}
+use Rattle.cu_base.proofs.Fields.{number_at-below, next_number, next_field, next_byte}
 
 -- the three versions
 pub versions : (v : ℕ) → is_image_version v ≡ true → (v ≡ 1) ⊎ ((v ≡ 2) ⊎ (v ≡ 3))
@@ -103,8 +110,10 @@ rules_of h e =
     let outer = and_parts _ _ e in
     let inner = and_parts _ _ outer.0 in (
       inner.0,
-      λ one. elim (or_cases _ _ inner.1)
-          [ inl other ↦ absurd (both_ways _ (not-true _ other) one) | inr zero ↦ eqb-true _ _ zero ],
+      λ one. elim (or_cases _ _ inner.1) [
+        | inl other ↦ absurd (both_ways _ (not-true _ other) one)
+        | inr zero ↦ eqb-true _ _ zero
+      ],
       λ low. elim (or_cases _ _ outer.1)
           [ inl three ↦ absurd (both_ways _ low three) | inr one ↦ eqb-true _ _ one ],
     )

@@ -1,12 +1,14 @@
 -- The capsule header, EFI_CAPSULE_HEADER (UEFI 2.10, 8.5.3): CapsuleGuid in 16 bytes, then
 -- HeaderSize, Flags and CapsuleImageSize in 4 bytes each. CapsuleImageSize counts the header.
-use Rattle.std.specs.Prelude.{◌≡◌, ℕ, ◌^◌, ◌<◌, ◌≤◌, Bool, ◌||◌, List, [], ◌∷◌, ◌++◌, length, nat_lt, Option, None, Some, Result, Ok, Err}
+use Rattle.std.specs.Prelude.{◌≡◌, ℕ, ◌^◌, ◌<◌, ◌≤◌, Bool, ◌||◌, List, [], ◌∷◌, ◌++◌, length}
+use Rattle.std.specs.Prelude.{nat_lt, Option, None, Some, Result, Ok, Err}
 use Rattle.cu_base.specs.Fields.{field, number_at, bytes_of}
 use Rattle.cu_base.specs.Refusals.{Row, row, first_refusal}
 use Rattle.cu_base.specs.declared.limits.TheConstants.{MAX_CAPSULE_BYTES}
 use Rattle.fmp_headers.specs.declared.capsule.CapsuleHeader.{CapsuleHeader}
 use Rattle.fmp_headers.specs.declared.faults.HeaderFault.{HeaderFault}
-use Rattle.fmp_headers.specs.declared.faults.HeaderFault.TheVariants.{Short, BadHeaderSize, BadImageSize}
+use Rattle.fmp_headers.specs.declared.faults.HeaderFault.TheVariants.{Short, BadHeaderSize}
+use Rattle.fmp_headers.specs.declared.faults.HeaderFault.TheVariants.{BadImageSize}
 
 -- HeaderSize, the number at 16
 abbrev pub header_size : List ℕ → ℕ

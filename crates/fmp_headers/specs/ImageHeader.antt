@@ -2,7 +2,8 @@
 -- Version in 4 bytes, UpdateImageTypeId in 16, UpdateImageIndex in 1, 3 reserved bytes,
 -- UpdateImageSize and UpdateVendorCodeSize in 4 bytes each. Version 2 adds UpdateHardwareInstance
 -- in 8 bytes, version 3 also ImageCapsuleSupport in 8.
-use Rattle.std.specs.Prelude.{◌≡◌, ℕ, ◌^◌, ◌<◌, IsTrue, Bool, ◌||◌, not, List, [], ◌∷◌, ◌++◌, ◌&&◌, length, slice_index, nat_lt, ◌==◌, if◌then◌else◌, Result}
+use Rattle.std.specs.Prelude.{◌≡◌, ℕ, ◌^◌, ◌<◌, IsTrue, Bool, ◌||◌, not, List, [], ◌∷◌, ◌++◌, ◌&&◌}
+use Rattle.std.specs.Prelude.{length, slice_index, nat_lt, ◌==◌, if◌then◌else◌, Result}
 use Rattle.cu_base.specs.Fields.{field, number_at, bytes_of}
 use Rattle.cu_base.specs.Refusals.{Row, row, first_refusal}
 use Rattle.fmp_headers.specs.CapsuleHeader.{header_or}

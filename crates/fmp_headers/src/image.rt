@@ -1,6 +1,10 @@
-ghost use Rattle.std.specs.Prelude.{◌≡◌, ◌≤◌, ◌==◌, ◌++◌, length, take, if◌then◌else◌, IsTrue, OnOk, OnErr};
+ghost use Rattle.std.specs.Prelude.{◌≡◌, ◌≤◌, ◌==◌, ◌++◌, length, take, if◌then◌else◌, IsTrue};
+ghost use Rattle.std.specs.Prelude.{OnOk, OnErr};
 ghost use Rattle.cu_base.specs.Fields.{number_at};
-ghost use Rattle.fmp_headers.specs.ImageHeader.{image_header, image_header_bytes, image_header_fields, image_header_size, image_version, instance_at, is_image_version, keeps_version_rules, support_at};
+ghost use Rattle.fmp_headers.specs.ImageHeader.{image_header, image_header_bytes};
+ghost use Rattle.fmp_headers.specs.ImageHeader.{image_header_fields, image_header_size};
+ghost use Rattle.fmp_headers.specs.ImageHeader.{image_version, instance_at, is_image_version};
+ghost use Rattle.fmp_headers.specs.ImageHeader.{keeps_version_rules, support_at};
 
 use crate::HeaderFault;
 use crate::layout::put;

@@ -6,9 +6,12 @@ ghost use Rattle.fmp_headers.specs.declared.capsule.TheConstants.{CAPSULE_HEADER
 ghost use Rattle.fmp_headers.specs.declared.fmp.TheConstants.{FMP_HEADER_BYTES, FMP_HEADER_VERSION};
 ghost use Rattle.fmp_headers.specs.declared.guids.TheConstants.{FMP_CAPSULE_GUID};
 ghost use Rattle.fmp_headers.specs.declared.image.TheConstants.{IMAGE_HEADER_BYTES};
-ghost use Rattle.fmp_headers.specs.CapsuleHeader.{capsule_header, capsule_header_bytes, IsCapsuleHeader};
-ghost use Rattle.fmp_headers.specs.FmpHeader.{fmp_guid_bytes, fmp_header, fmp_header_bytes, IsFmpHeader};
-ghost use Rattle.fmp_headers.specs.ImageHeader.{image_header, image_header_bytes, image_header_size, IsImageHeader};
+ghost use Rattle.fmp_headers.specs.CapsuleHeader.{capsule_header, capsule_header_bytes};
+ghost use Rattle.fmp_headers.specs.CapsuleHeader.{IsCapsuleHeader};
+ghost use Rattle.fmp_headers.specs.FmpHeader.{fmp_guid_bytes, fmp_header, fmp_header_bytes};
+ghost use Rattle.fmp_headers.specs.FmpHeader.{IsFmpHeader};
+ghost use Rattle.fmp_headers.specs.ImageHeader.{image_header, image_header_bytes};
+ghost use Rattle.fmp_headers.specs.ImageHeader.{image_header_size, IsImageHeader};
 ghost use Rattle.fmp_headers.specs.declared.capsule.CapsuleHeader.{CapsuleHeader};
 ghost use Rattle.fmp_headers.specs.declared.fmp.FmpHeader.{FmpHeader};
 ghost use Rattle.fmp_headers.specs.declared.image.ImageHeader.{ImageHeader};

@@ -1,5 +1,6 @@
 -- An image is cut in one way, or refused at one place for one cause, and never both.
-use Rattle.std.proofs.Common.{◌≡◌, ℕ, ◌+◌, inl, inr, Bool, true, false, List, ◌++◌, length, take, drop, Option, Some, None, unwrap_or, sym, ap, subst, ◌∙◌, arith}
+use Rattle.std.proofs.Common.{◌≡◌, ℕ, ◌+◌, inl, inr, Bool, true, false, List, ◌++◌, length, take}
+use Rattle.std.proofs.Common.{drop, Option, Some, None, unwrap_or, sym, ap, subst, ◌∙◌, arith}
 use Rattle.std.proofs.lemmas.List.{length-take, take-append-drop}
 use Rattle.cu_base.specs.Refusals.{first_refusal}
 use Rattle.dep_code.specs.declared.fault.DepWhy.{DepWhy}

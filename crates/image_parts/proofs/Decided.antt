@@ -1,5 +1,6 @@
 -- An image has its parts or is refused.
-use Rattle.std.proofs.Common.{◌≡◌, ℕ, ◌+◌, ◌⊎◌, inl, inr, Bool, true, false, List, Option, Some, None, refl}
+use Rattle.std.proofs.Common.{◌≡◌, ℕ, ◌+◌, ◌⊎◌, inl, inr, Bool, true, false, List, Option, Some}
+use Rattle.std.proofs.Common.{None, refl}
 use Rattle.cu_base.specs.Refusals.{first_refusal}
 use Rattle.cu_base.specs.Bytes.{IsBytes}
 use Rattle.cu_base.proofs.Fields.{IsBytes-drop}
@@ -67,7 +68,13 @@ by_section image support is auth (inr (due, (place, cause, refused))) =
           (record {
             auth = auth;
             due = due;
-            section = record { place = place; cause = cause; refused = refused; sum = refl; told = refl };
+            section = record {
+              place = place;
+              cause = cause;
+              refused = refused;
+              sum = refl;
+              told = refl;
+            };
           })),
     )
 

@@ -1,5 +1,6 @@
 -- The place of a refused section lies within its bytes.
-use Rattle.std.proofs.Common.{◌≡◌, ℕ, zero, suc, ◌+◌, ◌-◌, ◌≤◌, List, [], ◌∷◌, ◌++◌, length, take, map, Some, inl, inr, ap, subst, ◌∙◌, arith}
+use Rattle.std.proofs.Common.{◌≡◌, ℕ, zero, suc, ◌+◌, ◌-◌, ◌≤◌, List, [], ◌∷◌, ◌++◌, length, take}
+use Rattle.std.proofs.Common.{map, Some, inl, inr, ap, subst, ◌∙◌, arith}
 use Rattle.std.specs.List.{range_with_len, AllByRecursion}
 use Rattle.std.proofs.lemmas.List.{length-append}
 use Rattle.cu_base.specs.Refusals.{Row, first_refusal}
@@ -11,7 +12,8 @@ use Rattle.dep_code.specs.declared.fault.DepRefusal.{DepRefusal}
 use Rattle.dep_code.specs.declared.fault.DepRefusal.TheVariants.{Dep}
 use Rattle.dep_code.specs.declared.fault.DepWhy.{DepWhy}
 use Rattle.dep_code.specs.Operations.{op_bytes, section_bytes}
-use Rattle.dep_code.specs.Refusals.{BreaksOff, EndsWrong, IsRefused, IsRefusalOf, place_rows, section_rows, type_row}
+use Rattle.dep_code.specs.Refusals.{BreaksOff, EndsWrong, IsRefused, IsRefusalOf, place_rows}
+use Rattle.dep_code.specs.Refusals.{section_rows, type_row}
 use Rattle.dep_code.proofs.Fronts.{bytes_push}
 
 -- a place of at most n

@@ -1,6 +1,8 @@
 -- What is spelled is read: parts that are written one behind another are found at their places, and
 -- nothing is refused.
-use Rattle.std.proofs.Common.{◌≡◌, ℕ, ◌+◌, ◌-◌, ◌≤◌, Bool, true, false, cond, List, [], ◌++◌, length, take, drop, Option, Some, None, is_some, IfSome, refl, sym, ap, subst, ◌∙◌, arith, append_assoc, length-append}
+use Rattle.std.proofs.Common.{◌≡◌, ℕ, ◌+◌, ◌-◌, ◌≤◌, Bool, true, false, cond, List, [], ◌++◌}
+use Rattle.std.proofs.Common.{length, take, drop, Option, Some, None, is_some, IfSome, refl, sym}
+use Rattle.std.proofs.Common.{ap, subst, ◌∙◌, arith, append_assoc, length-append}
 use Rattle.std.proofs.lemmas.Bool.{le-ltb, or_from, eq-eqb, not_from_true}
 use Rattle.std.proofs.lemmas.List.{drop_at, take_at}
 use Rattle.std.proofs.lemmas.Slice.Eq.{bytes_eq-Decides}
@@ -9,10 +11,14 @@ use Rattle.cu_base.specs.Refusals.{first_refusal}
 use Rattle.cu_base.proofs.Fields.{field_in, length-bytes_of, number_at_in}
 use Rattle.cu_base.proofs.Rows.{none_refused}
 use Rattle.image_parts.specs.declared.value.PayloadHead.{PayloadHead}
-use Rattle.image_parts.specs.Authentication.{IsAuthentication, authentication_at, authentication_bytes, authentication_rows, authentication_size}
-use Rattle.image_parts.specs.Cuts.{IsCutInto, auth_at, auth_end, behind_auth, behind_section, dep_at}
+use Rattle.image_parts.specs.Authentication.{IsAuthentication, authentication_at}
+use Rattle.image_parts.specs.Authentication.{authentication_bytes, authentication_rows}
+use Rattle.image_parts.specs.Authentication.{authentication_size}
+use Rattle.image_parts.specs.Cuts.{IsCutInto, auth_at, auth_end, behind_auth, behind_section}
+use Rattle.image_parts.specs.Cuts.{dep_at}
 use Rattle.image_parts.specs.Parts.{IsPartsOf, auth_bytes, dep_bytes}
-use Rattle.image_parts.specs.PayloadHeader.{IsPayloadHead, header_size, payload_head_at, payload_head_bytes, payload_header_rows, signature}
+use Rattle.image_parts.specs.PayloadHeader.{IsPayloadHead, header_size, payload_head_at}
+use Rattle.image_parts.specs.PayloadHeader.{payload_head_bytes, payload_header_rows, signature}
 use Rattle.image_parts.specs.Section.{IsOneSection, TakesSection}
 use Rattle.image_parts.specs.Support.{has_authentication, has_section}
 use Rattle.image_parts.specs.Values.{AuthValue, PartsValue}

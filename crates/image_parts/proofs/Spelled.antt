@@ -1,20 +1,26 @@
 -- What is cut is spelled: the parts at their places, one behind another, are the image.
-use Rattle.std.proofs.Common.{◌≡◌, ℕ, ◌+◌, ◌-◌, ◌≤◌, Bool, true, false, cond, List, [], ◌++◌, length, take, drop, Some, None, is_some, IfSome, refl, sym, ap, subst, ◌∙◌, arith, append_assoc}
+use Rattle.std.proofs.Common.{◌≡◌, ℕ, ◌+◌, ◌-◌, ◌≤◌, Bool, true, false, cond, List, [], ◌++◌}
+use Rattle.std.proofs.Common.{length, take, drop, Some, None, is_some, IfSome, refl, sym, ap, subst}
+use Rattle.std.proofs.Common.{◌∙◌, arith, append_assoc}
 use Rattle.std.proofs.lemmas.Bool.{ltb-false, or_parts, not-false, eqb-true}
 use Rattle.std.proofs.lemmas.List.{take-append-drop}
 use Rattle.std.proofs.lemmas.Slice.Eq.{bytes_eq-Decides}
 use Rattle.cu_base.specs.Fields.{field, number_at, bytes_of}
 use Rattle.cu_base.specs.Refusals.{first_refusal}
 use Rattle.cu_base.specs.Bytes.{IsBytes}
-use Rattle.cu_base.proofs.Fields.{IsBytes-drop, length-field, next_field, next_number, number_at-below}
+use Rattle.cu_base.proofs.Fields.{IsBytes-drop, length-field, next_field, next_number}
+use Rattle.cu_base.proofs.Fields.{number_at-below}
 use Rattle.cu_base.proofs.Rows.{passed}
 use Rattle.image_parts.specs.Cuts.{IsCutInto, auth_end, behind_section}
 use Rattle.image_parts.specs.Parts.{IsPartsOf, auth_bytes, dep_bytes}
-use Rattle.image_parts.specs.PayloadHeader.{IsPayloadHead, header_size, payload_head_at, payload_head_bytes, payload_header_rows, signature}
+use Rattle.image_parts.specs.PayloadHeader.{IsPayloadHead, header_size, payload_head_at}
+use Rattle.image_parts.specs.PayloadHeader.{payload_head_bytes, payload_header_rows, signature}
 use Rattle.image_parts.specs.Section.{IsOneSection, TakesSection}
 use Rattle.image_parts.specs.Support.{has_authentication, has_section}
 use Rattle.image_parts.specs.Values.{PartsValue}
-use Rattle.image_parts.specs.Authentication.{IsAuthentication, authentication_at, authentication_bytes, authentication_rows, authentication_size, certificate_size}
+use Rattle.image_parts.specs.Authentication.{IsAuthentication, authentication_at}
+use Rattle.image_parts.specs.Authentication.{authentication_bytes, authentication_rows}
+use Rattle.image_parts.specs.Authentication.{authentication_size, certificate_size}
 
 -- what holds of authentication data that no row refuses
 record IsSound (image : List ℕ) : Type 0 where
@@ -177,7 +183,8 @@ cut_is_parts image support p is c =
     subst (λ (x : PartsValue). IsPartsOf image support x) (sym c.parts) (record {
       whole = sym
           (whole image _ _ _ _ _ start c.size (auth_is (has_authentication support) image is c.auth)
-          (dep_is (has_section support) image start c.size c.section) (head_spelled rest rest_is head));
+          (dep_is (has_section support) image start c.size c.section)
+          (head_spelled rest rest_is head));
       auth = there_where_due (has_authentication support) (authentication_at image);
       authentication = auth_fits (has_authentication support) image is c.auth;
       dep = there_where_due (has_section support) (field image start c.size);

@@ -1,11 +1,13 @@
 -- The authentication data of an update image, EFI_FIRMWARE_IMAGE_AUTHENTICATION (UEFI 2.10, 23.1):
 -- MonotonicCount in 8 bytes, then WIN_CERTIFICATE_UEFI_GUID: dwLength in 4, wRevision and
 -- wCertificateType in 2 each, CertType in 16, and CertData. dwLength counts from its own place.
-use Rattle.std.specs.Prelude.{◌≡◌, ℕ, ◌+◌, ◌-◌, ◌^◌, ◌<◌, Bool, ◌||◌, not, List, [], ◌∷◌, ◌++◌, length, nat_lt, ◌==◌}
+use Rattle.std.specs.Prelude.{◌≡◌, ℕ, ◌+◌, ◌-◌, ◌^◌, ◌<◌, Bool, ◌||◌, not, List, [], ◌∷◌, ◌++◌}
+use Rattle.std.specs.Prelude.{length, nat_lt, ◌==◌}
 use Rattle.cu_base.specs.Fields.{field, number_at, bytes_of}
 use Rattle.cu_base.specs.Refusals.{Row, row_at}
 use Rattle.image_parts.specs.declared.fault.PartWhy.{PartWhy}
-use Rattle.image_parts.specs.declared.fault.PartWhy.TheVariants.{ShortAuth, BadAuthLength, BadRevision, BadCertType}
+use Rattle.image_parts.specs.declared.fault.PartWhy.TheVariants.{ShortAuth, BadAuthLength}
+use Rattle.image_parts.specs.declared.fault.PartWhy.TheVariants.{BadRevision, BadCertType}
 use Rattle.image_parts.specs.Values.{AuthValue}
 
 -- dwLength, the number at 8

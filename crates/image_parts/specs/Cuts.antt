@@ -4,7 +4,8 @@ use Rattle.std.specs.Prelude.{◌≡◌, ℕ, ◌+◌, ◌-◌, List, [], drop, 
 use Rattle.cu_base.specs.Fields.{field}
 use Rattle.cu_base.specs.Refusals.{Row, first_refusal}
 use Rattle.image_parts.specs.declared.fault.PartWhy.{PartWhy}
-use Rattle.image_parts.specs.Authentication.{authentication_at, authentication_rows, authentication_size}
+use Rattle.image_parts.specs.Authentication.{authentication_at, authentication_rows}
+use Rattle.image_parts.specs.Authentication.{authentication_size}
 use Rattle.image_parts.specs.PayloadHeader.{header_size, payload_head_at, payload_header_rows}
 use Rattle.image_parts.specs.Section.{TakesSection}
 use Rattle.image_parts.specs.Support.{has_authentication, has_section}

@@ -1,12 +1,14 @@
 -- The payload header, FMP_PAYLOAD_HEADER (EDK II, FmpDevicePkg, FmpPayloadHeaderLibV1): Signature
 -- `MSS1`, HeaderSize, FwVersion and LowestSupportedVersion, in 4 bytes each. HeaderSize counts
 -- these 16 bytes and what follows them up to the payload.
-use Rattle.std.specs.Prelude.{◌≡◌, ℕ, ◌+◌, ◌^◌, ◌<◌, Bool, ◌||◌, not, List, [], ◌∷◌, ◌++◌, length, nat_lt}
+use Rattle.std.specs.Prelude.{◌≡◌, ℕ, ◌+◌, ◌^◌, ◌<◌, Bool, ◌||◌, not, List, [], ◌∷◌, ◌++◌, length}
+use Rattle.std.specs.Prelude.{nat_lt}
 use Rattle.std.specs.Str.{bytes_eq}
 use Rattle.cu_base.specs.Fields.{field, number_at, bytes_of}
 use Rattle.cu_base.specs.Refusals.{Row, row_at}
 use Rattle.image_parts.specs.declared.fault.PartWhy.{PartWhy}
-use Rattle.image_parts.specs.declared.fault.PartWhy.TheVariants.{ShortPayloadHeader, BadSignature, BadPayloadHeaderSize}
+use Rattle.image_parts.specs.declared.fault.PartWhy.TheVariants.{ShortPayloadHeader, BadSignature}
+use Rattle.image_parts.specs.declared.fault.PartWhy.TheVariants.{BadPayloadHeaderSize}
 use Rattle.image_parts.specs.declared.value.PayloadHead.{PayloadHead}
 
 -- the letters `MSS1`

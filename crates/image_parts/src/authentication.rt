@@ -2,7 +2,8 @@
 
 ghost use Rattle.std.specs.Prelude.{◌≡◌, ◌≤◌, length, IfOk, option_map};
 ghost use Rattle.cu_base.specs.Refusals.{first_refusal};
-ghost use Rattle.image_parts.specs.Authentication.{authentication_at, authentication_rows, authentication_size, certificate_rows};
+ghost use Rattle.image_parts.specs.Authentication.{authentication_at, authentication_rows};
+ghost use Rattle.image_parts.specs.Authentication.{authentication_size, certificate_rows};
 ghost use Rattle.image_parts.specs.Cuts.{auth_at, auth_end, auth_rows};
 ghost use Rattle.image_parts.specs.Refusals.{Answers};
 ghost use Rattle.image_parts.specs.Values.{auth_seen};

@@ -4,7 +4,8 @@
 
 ghost use Rattle.std.specs.Prelude.{◌≡◌, ◌<◌, ◌⊎◌, ℕ, List, [], ◌∷◌};
 ghost use Rattle.cu_base.specs.Bytes.{IsBytes};
-ghost use Rattle.image_parts.specs.declared.authentication.TheConstants.{CERTIFICATE_TYPE, REVISION};
+ghost use Rattle.image_parts.specs.declared.authentication.TheConstants.{CERTIFICATE_TYPE};
+ghost use Rattle.image_parts.specs.declared.authentication.TheConstants.{REVISION};
 ghost use Rattle.image_parts.specs.declared.payload_header.TheConstants.{SIGNATURE};
 ghost use Rattle.image_parts.specs.declared.fault.PartWhy.{PartWhy};
 ghost use Rattle.image_parts.specs.Cuts.{IsCutInto};

@@ -2,7 +2,8 @@
 
 ghost use Rattle.std.specs.Prelude.{◌≡◌, ◌+◌, ◌≤◌, ◌<◌, ◌^◌, OnOk, IfOk, length};
 ghost use Rattle.cu_base.specs.Refusals.{first_refusal};
-ghost use Rattle.image_parts.specs.PayloadHeader.{header_size, payload_head_at, payload_header_rows};
+ghost use Rattle.image_parts.specs.PayloadHeader.{header_size, payload_head_at};
+ghost use Rattle.image_parts.specs.PayloadHeader.{payload_header_rows};
 ghost use Rattle.image_parts.specs.Refusals.{Answers};
 
 use crate::{PartFault, PartWhy, PayloadHead};

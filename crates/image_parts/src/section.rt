@@ -1,6 +1,7 @@
 //! The dependency section behind the authentication data.
 
-ghost use Rattle.std.specs.Prelude.{◌≡◌, ◌+◌, ◌≤◌, ◌<◌, ◌^◌, IfOk, IfErr, IsTrue, length, option_map};
+ghost use Rattle.std.specs.Prelude.{◌≡◌, ◌+◌, ◌≤◌, ◌<◌, ◌^◌, IfOk, IfErr, IsTrue, length};
+ghost use Rattle.std.specs.Prelude.{option_map};
 ghost use Rattle.image_parts.specs.Cuts.{dep_at};
 ghost use Rattle.image_parts.specs.Refusals.{IsSectionRefusal};
 ghost use Rattle.image_parts.specs.Section.{BeginsWithSection, TakesSection};

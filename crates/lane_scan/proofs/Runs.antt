@@ -1,5 +1,6 @@
 -- The first true of a list of answers, seen a part at a time through the mask of that part.
-use Rattle.std.proofs.Common.{◌≡◌, ◌≢◌, ℕ, zero, suc, ◌+◌, ◌*◌, ◌<◌, ◌≤◌, ◌==◌, Bool, true, false, not}
+use Rattle.std.proofs.Common.{◌≡◌, ◌≢◌, ℕ, zero, suc, ◌+◌, ◌*◌, ◌<◌, ◌≤◌, ◌==◌, Bool, true, false}
+use Rattle.std.proofs.Common.{not}
 use Rattle.std.proofs.Common.{cond, eqb, List, [], ◌∷◌, ◌++◌, map, length, take, drop}
 use Rattle.std.proofs.Common.{refl, sym, ap, ap₂, ◌∙◌, arith}
 use Rattle.std.proofs.lemmas.List.{length-drop, length-take, map-id, take-append-drop}
@@ -126,7 +127,8 @@ abbrev pub unlike_mask : ℕ → List ℕ → ℕ → ℕ
 unlike_mask like bytes at = mask_l (map (λ b. not (b == like)) (take 32 (drop at bytes)))
 
 mask_of_map : (like : ℕ) (d : List ℕ)
-    → mask_l (take 32 (map (λ b. not (b == like)) d)) ≡ mask_l (map (λ b. not (b == like)) (take 32 d))
+    → mask_l (take 32 (map (λ b. not (b == like)) d))
+    ≡ mask_l (map (λ b. not (b == like)) (take 32 d))
 mask_of_map like d = ap mask_l (take-map (λ b. not (b == like)) 32 d)
 
 drop_more_of : {X : Type 0} (i n : ℕ) (xs : List X) → drop n (drop i xs) ≡ drop (i + n) xs
@@ -137,7 +139,8 @@ pub unlike_through : (like : ℕ) (bytes : List ℕ) (at : ℕ) → at + 32 ≤ 
 unlike_through like bytes at room none =
     let other : ℕ → Bool = λ b. not (b == like) in
     let d = drop at bytes in
-    let size : 32 ≤ length (map other d) = omega (arith, length-map d other, length-drop at bytes) in
+    let size : 32 ≤ length (map other d) =
+    omega (arith, length-map d other, length-drop at bytes) in
     unlike_is like d
     ∙ run_through 32 (map other d) size (mask_of_map like d ∙ none)
     ∙ ap (λ xs. 32 + first_true xs) (drop-map other 32 d)
@@ -150,7 +153,8 @@ pub unlike_stops : (like : ℕ) (bytes : List ℕ) (at : ℕ) → at + 32 ≤ le
 unlike_stops like bytes at room some =
     let other : ℕ → Bool = λ b. not (b == like) in
     let d = drop at bytes in
-    let size : 32 ≤ length (map other d) = omega (arith, length-map d other, length-drop at bytes) in
+    let size : 32 ≤ length (map other d) =
+    omega (arith, length-map d other, length-drop at bytes) in
     let here : 0 < mask_l (take 32 (map other d)) = omega (arith, mask_of_map like d) in
     unlike_is like d
     ∙ run_stops 32 (map other d) size (omega arith) here

@@ -1,4 +1,5 @@
-//! First places in bytes, looked for thirty-two bytes at a time. Contracts see the plain first place.
+//! First places in bytes, looked for thirty-two bytes at a time. Contracts see the plain first
+//! place.
 #![tactic(auto)]
 
 ghost use Rattle.std.specs.Prelude.{◌≡◌, ◌+◌, ◌≤◌, ◌==◌, not, map, length, take, drop};

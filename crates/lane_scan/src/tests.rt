@@ -3,7 +3,8 @@ ghost use Rattle.std.specs.Prelude.{◌≤◌};
 use crate::{first_apart, first_unlike};
 use std::process::Abort;
 
-/// The bytes before the place are alike, the one there is not, and what stands behind does not count.
+/// The bytes before the place are alike, the one there is not, and what stands behind does not
+/// count.
 fn finds(rt: &impl Abort, length: usize, place: usize)
     requires { length ≤ 130 }
 {

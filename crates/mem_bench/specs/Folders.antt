@@ -1,7 +1,8 @@
 -- A folder in memory keeps the limits of its files.
 use Rattle.std.specs.Prelude.{◌≢◌, ℕ, ◌≤◌, length, IsTrue, All, AllPairs}
 use Rattle.std.specs.Str.{str_to_ascii_uppercase}
-use Rattle.bench_model.specs.declared.outside_limits.TheConstants.{MAX_FILE_BYTES, MAX_FILES, MAX_FOLDER_BYTES}
+use Rattle.bench_model.specs.declared.outside_limits.TheConstants.{MAX_FILE_BYTES, MAX_FILES}
+use Rattle.bench_model.specs.declared.outside_limits.TheConstants.{MAX_FOLDER_BYTES}
 use Rattle.bench_model.specs.Files.{File, FolderValue, bytes_in, is_file_name}
 
 -- a file keeps the limits of names and sizes, and its serial was drawn

@@ -20,7 +20,8 @@ no_tickets = record { begun = []; spare = 0 }
 abbrev pub faults_after : Strike → ℕ → ℕ
 faults_after strike faults = if is_struck strike then next_count faults else faults
 
--- a change of the folder that this strikes is done all the same: power is cut in it, and the choice is not `Old`
+-- a change of the folder that this strikes is done all the same: power is cut in it, and the choice
+-- is not `Old`
 abbrev pub keeps_change : Strike → Bool
 keeps_change (Cut New) = true
 keeps_change (Cut Old) = false

@@ -1,5 +1,8 @@
--- A region in memory: the bytes as read, those at its last sync, and the places that were written since.
-use Rattle.std.specs.Prelude.{◌≡◌, ℕ, ◌+◌, ◌%◌, ◌<◌, ◌==◌, Bool, true, false, List, [], ◌++◌, length, take, drop, replicate, get_or, Option, Some, None, if◌then◌else◌}
+-- A region in memory: the bytes as read, those at its last sync, and the places that were written
+-- since.
+use Rattle.std.specs.Prelude.{◌≡◌, ℕ, ◌+◌, ◌%◌, ◌<◌, ◌==◌, Bool, true, false, List, [], ◌++◌}
+use Rattle.std.specs.Prelude.{length, take, drop, replicate, get_or, Option, Some, None}
+use Rattle.std.specs.Prelude.{if◌then◌else◌}
 use Rattle.bench_model.specs.declared.choice.Choice.{Choice}
 use Rattle.bench_model.specs.declared.choice.Choice.TheVariants.{New, Old, Mix, Fill}
 use Rattle.bench_model.specs.Regions.{Region}
@@ -25,7 +28,8 @@ overlaid at items old = take at old ++ items ++ drop (at + length items) old
 
 -- a region whose bytes are stable
 abbrev pub stable_region : List ℕ → RegionValue
-stable_region bytes = record { bytes = bytes; synced = bytes; marks = replicate (length bytes) false }
+stable_region bytes =
+    record { bytes = bytes; synced = bytes; marks = replicate (length bytes) false }
 
 -- what a power cut makes of a dirty byte, by its place: `Mix` keeps what was synced at even places
 abbrev pub byte_after : Choice → ℕ → ℕ → ℕ → ℕ
@@ -34,11 +38,13 @@ byte_after Old place synced read = synced
 byte_after Mix place synced read = if place % 2 == 0 then synced else read
 byte_after (Fill byte) place synced read = byte
 
--- these bytes are what a power cut leaves of the region: each dirty one by the choice, all others as they are read
+-- these bytes are what a power cut leaves of the region: each dirty one by the choice, all others
+-- as they are read
 pub record IsCut (choice : Choice) (r : RegionValue) (left : List ℕ) : Type 0 where
   pub long : length left ≡ length r.bytes
   pub each : (k : ℕ) → k < length r.bytes → get_or left k 0
-      ≡ (if get_or r.marks k false then byte_after choice k (get_or r.synced k 0) (get_or r.bytes k 0) else get_or r.bytes k 0)
+      ≡ (if get_or r.marks k false then byte_after choice k (get_or r.synced k 0)
+      (get_or r.bytes k 0) else get_or r.bytes k 0)
 
 -- the region as a flash tells it
 abbrev pub told_region : RegionValue → Region

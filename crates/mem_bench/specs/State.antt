@@ -27,14 +27,20 @@ abbrev pub spare_by : List TicketsValue → ℕ → ℕ
 spare_by devices d = (get_or devices d no_tickets).spare
 
 -- the bench of these parts
-abbrev pub state_from : List RegionValue → List TicketsValue → Option ℕ → FolderValue → List Segment → Orders → Clerk → BenchValue
+abbrev pub state_from : List RegionValue → List TicketsValue → Option ℕ → FolderValue → List Segment
+    → Orders → Clerk → BenchValue
 state_from regions devices open_device folder memory orders clerk = record {
   contents = record {
     told = true;
     regions = length regions;
     bytes = bytes_by regions;
     dirty = dirty_by regions;
-    rest = record { begun = begun_by devices; open_device = open_device; folder = folder; memory = memory };
+    rest = record {
+      begun = begun_by devices;
+      open_device = open_device;
+      folder = folder;
+      memory = memory;
+    };
   };
   spare = spare_by devices;
   orders = orders;
@@ -44,10 +50,16 @@ state_from regions devices open_device folder memory orders clerk = record {
 
 -- the bench
 abbrev pub state_of : MemBench → BenchValue
-state_of b = state_from b.regions.items b.devices.items b.open_device b.folder b.memory b.orders b.clerk
+state_of b =
+    state_from b.regions.items b.devices.items b.open_device b.folder b.memory b.orders b.clerk
 
 -- no regions, an empty folder, no memory and the empty plan, with nothing counted
 abbrev pub empty_state : BenchValue
 empty_state =
-    state_from [] [] None (record { files = []; last_serial = 0 }) [] (record { given = []; room = 0 })
-    (record { plan = no_plan; counts = record { moves = 0; looks = 0; flash_faults = 0; volume_faults = 0 } })
+    state_from [] [] None (record { files = []; last_serial = 0 }) []
+    (record { given = []; room = 0 })
+    (record {
+      plan = no_plan;
+      counts = record
+          { moves = 0; looks = 0; flash_faults = 0; volume_faults = 0 };
+    })

@@ -26,7 +26,8 @@ impl MemBench {
     ghost use Rattle.std.specs.Prelude.{◌≡◌};
     ghost use Rattle.mem_bench.specs.State.{empty_state, state_of};
 
-    /// A bench with no regions, an empty folder and no memory, whose plan is empty. It takes no memory.
+    /// A bench with no regions, an empty folder and no memory, whose plan is empty. It takes no
+    /// memory.
     pub fn new(alloc: Global) -> MemBench
         ensures { state_of result ≡ empty_state }
     {

@@ -2,7 +2,8 @@
 
 ghost use Rattle.std.specs.Prelude.{◌≡◌, ◌≤◌, [], ◌∷◌, ◌++◌, length, map, replicate, IfOk, OnOk};
 ghost use Rattle.bench_model.specs.Devices.{AreDevices};
-ghost use Rattle.bench_model.specs.Factory.{bank_head, filled, first_device, first_regions, region_size, slot_head};
+ghost use Rattle.bench_model.specs.Factory.{bank_head, filled, first_device, first_regions};
+ghost use Rattle.bench_model.specs.Factory.{region_size, slot_head};
 ghost use Rattle.mem_bench.specs.Parts.{no_tickets};
 ghost use Rattle.mem_bench.specs.Regions.{stable_region};
 
@@ -44,7 +45,8 @@ fn push_devices(
     devices: &[Device],
 ) -> Result<(), NoMemory>
     requires { AreDevices devices.now }
-    ensures { OnOk result (regions.new.items ≡ regions.old.items ++ map stable_region (map (first_device two_banks) devices.now)) }
+    ensures { OnOk result (regions.new.items ≡ regions.old.items
+        ++ map stable_region (map (first_device two_banks) devices.now)) }
 {
     for device in devices {
         push(regions, first_device(alloc, two_banks, device)?)?;

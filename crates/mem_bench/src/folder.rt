@@ -1,6 +1,7 @@
 ghost use Rattle.std.specs.Prelude.{◌≡◌, ◌+◌, ◌≤◌, [], length, IsTrue, IfOk, OnErr, false};
 ghost use Rattle.cu_base.specs.Fields.{field};
-ghost use Rattle.bench_model.specs.Files.{file_bytes, has_serial, is_file_name, is_folder_full, listed, with_put, without_serial};
+ghost use Rattle.bench_model.specs.Files.{file_bytes, has_serial, is_file_name, is_folder_full};
+ghost use Rattle.bench_model.specs.Files.{listed, with_put, without_serial};
 
 use crate::stored_file::{StoredFile, bytes_of_others, drop_name, drop_serial, file_of, has_file};
 use bench_model::{Listed, Listing, MAX_FILE_BYTES, MAX_FILES, MAX_FOLDER_BYTES};
@@ -108,7 +109,8 @@ impl Folder {
 fn listed(alloc: Global, file: &StoredFile) -> Result<Listed, NoMemory>
     requires name { IsTrue (is_file_name file.now.name) }
     requires size { length file.now.bytes ≤ MAX_FILE_BYTES }
-    ensures { IfOk result (λ x. x ≡ record { name = file.now.name; serial = file.now.serial; size = length file.now.bytes }) }
+    ensures { IfOk result (λ x. x ≡ record
+        { name = file.now.name; serial = file.now.serial; size = length file.now.bytes }) }
 {
     Ok(Listed {
         name: Text::from_str(alloc, file.name.as_str())?,

@@ -1,5 +1,5 @@
-//! A bench in memory: the flash, the volume and the memory of a platform, whose power is cut and whose
-//! calls fail by plan.
+//! A bench in memory: the flash, the volume and the memory of a platform, whose power is cut and
+//! whose calls fail by plan.
 #![tactic(auto)]
 
 mod bench;

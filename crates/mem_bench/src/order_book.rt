@@ -5,7 +5,8 @@ use cu_base::{Items, NoMemory};
 use std::alloc::Global;
 use std::marker::Model;
 
-/// The orders that a bench was given. Contracts see them in order, and how many more need no memory.
+/// The orders that a bench was given. Contracts see them in order, and how many more need no
+/// memory.
 #[derive(Drop)]
 pub struct OrderBook {
     given: Items<Ordered>,
@@ -54,7 +55,10 @@ impl OrderBook {
     /// Keeps an order.
     pub fn push(&mut self, order: Ordered)
         requires { 1 ≤ self.old.room }
-        ensures { self.new ≡ record { given = self.old.given ++ order ∷ []; room = self.old.room - 1 } }
+        ensures { self.new ≡ record {
+          given = self.old.given ++ order ∷ [];
+          room = self.old.room - 1;
+        } }
     {
         self.room -= 1;
         if self.given.push(order).is_err() {

@@ -1,4 +1,5 @@
-ghost use Rattle.std.specs.Prelude.{◌≡◌, ◌+◌, ◌<◌, ◌≤◌, ◌^◌, true, false, length, replicate, IfOk, if◌then◌else◌, get_or, ℕ};
+ghost use Rattle.std.specs.Prelude.{◌≡◌, ◌+◌, ◌<◌, ◌≤◌, ◌^◌, true, false, length, replicate, IfOk};
+ghost use Rattle.std.specs.Prelude.{if◌then◌else◌, get_or, ℕ};
 ghost use Rattle.cu_base.specs.Fields.{field};
 ghost use Rattle.bench_model.specs.Regions.{Writes};
 ghost use Rattle.mem_bench.specs.Regions.{IsCut, byte_after, overlaid, stable_region, told_region};
@@ -65,7 +66,8 @@ impl Region {
         requires { at + length bytes.now ≤ length self.old.bytes }
         ensures bytes { self.new.bytes ≡ overlaid at bytes.now self.old.bytes }
         ensures synced { self.new.synced ≡ self.old.synced }
-        ensures marks { self.new.marks ≡ overlaid at (replicate (length bytes.now) true) self.old.marks }
+        ensures marks { self.new.marks ≡ overlaid at
+            (replicate (length bytes.now) true) self.old.marks }
         ensures writes { Writes at (length bytes.now) (told_region self.old) (told_region self.new) }
         ensures reads { field self.new.bytes at (length bytes.now) ≡ bytes.now }
     {
@@ -117,7 +119,8 @@ fn clean_marks(alloc: Global, n: usize) -> Result<Vec<bool>, NoMemory>
 fn choose(choice: Choice, marks: &[bool], synced: &[u8], bytes: &mut [u8])
     requires marks { length marks.now ≡ length bytes.old }
     requires synced { length synced.now ≡ length bytes.old }
-    ensures { IsCut choice (record { bytes = bytes.old; synced = synced.now; marks = marks.now }) bytes.new }
+    ensures { IsCut choice (record { bytes = bytes.old; synced = synced.now; marks = marks.now })
+        bytes.new }
 {
     for k in 0..bytes.len() {
         if marks[k] {

@@ -8,7 +8,9 @@ use bench_model::Choice;
 /// read.
 pub fn settle_all(regions: &mut Vec<Region>, cut: Option<Choice>)
     ensures long { length regions.new.items ≡ length regions.old.items }
-    ensures each { (k : ℕ) → k < length regions.old.items → IsSettled cut (get_or regions.old.items k no_region) (get_or regions.new.items k no_region) }
+    ensures each { (k : ℕ) → k < length regions.old.items
+        → IsSettled cut (get_or regions.old.items k no_region)
+        (get_or regions.new.items k no_region) }
 {
     for k in 0..regions.len() {
         settle(&mut regions[k], cut);

@@ -1,4 +1,5 @@
-ghost use Rattle.std.specs.Prelude.{◌≡◌, ◌==◌, ◌+◌, ◌≤◌, ◌∷◌, [], ◌++◌, filter, not, length, vec_len, vec_capacity, option_map, find, IfOk};
+ghost use Rattle.std.specs.Prelude.{◌≡◌, ◌==◌, ◌+◌, ◌≤◌, ◌∷◌, [], ◌++◌, filter, not, length};
+ghost use Rattle.std.specs.Prelude.{vec_len, vec_capacity, option_map, find, IfOk};
 ghost use Rattle.std.specs.List.{list_any};
 ghost use Rattle.bench_model.specs.Files.{bytes_in, has_file, is_same_name, others_than};
 
@@ -31,7 +32,8 @@ impl StoredFile {
         serial: u64,
         bytes: &[u8],
     ) -> Result<StoredFile, NoMemory>
-        ensures { IfOk result (λ f. f ≡ record { name = name.now; serial = serial; bytes = bytes.now }) }
+        ensures { IfOk result (λ f. f ≡ record
+            { name = name.now; serial = serial; bytes = bytes.now }) }
     {
         Ok(StoredFile {
             name: Text::from_str(alloc, name.as_str())?,

@@ -58,7 +58,10 @@ impl Tickets {
     /// Appends a ticket.
     pub fn push(&mut self, ticket: Ticket)
         requires { 1 ≤ self.old.spare }
-        ensures { self.new ≡ record { begun = self.old.begun ++ ticket ∷ []; spare = self.old.spare - 1 } }
+        ensures { self.new ≡ record {
+          begun = self.old.begun ++ ticket ∷ [];
+          spare = self.old.spare - 1;
+        } }
     {
         self.spare -= 1;
         if self.begun.push(ticket).is_err() {

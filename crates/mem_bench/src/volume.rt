@@ -56,8 +56,8 @@ impl Volume for MemBench {
     }
 }
 
-/// Whether a change of the folder that this strikes is done all the same: where power is cut and the
-/// choice is not `Old`.
+/// Whether a change of the folder that this strikes is done all the same: where power is cut and
+/// the choice is not `Old`.
 fn keeps_change(strike: Strike) -> bool
     ensures { result ≡ keeps_change strike }
 {

@@ -18,6 +18,7 @@ refused_by bytes false holds not = refl
 pub document_of_other : (bytes : List ℕ) → ¬ (IsUtf8 bytes) → document bytes ≡ None
 document_of_other bytes not = rw (refused_by bytes (is_utf8 bytes) (IsUtf8-from_is_utf8 bytes) not)
 
-pub told : (d : Option Members) (fault : Fault) → document_test d ≡ Some fault → board_of d ≡ Err (fault.kind, key_name fault.key)
+pub told : (d : Option Members) (fault : Fault) → document_test d ≡ Some fault
+    → board_of d ≡ Err (fault.kind, key_name fault.key)
 told None fault same = cc
 told (Some table) fault same = rw same

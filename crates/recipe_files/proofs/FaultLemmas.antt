@@ -1,5 +1,6 @@
 -- First faults along a list that `toml` read.
-use Rattle.std.proofs.Common.{◌≡◌, ℕ, ◌+◌, ◌<◌, arith, List, [], ◌∷◌, length, get_or, drop, map, Option, None, Some}
+use Rattle.std.proofs.Common.{◌≡◌, ℕ, ◌+◌, ◌<◌, arith, List, [], ◌∷◌, length, get_or, drop, map}
+use Rattle.std.proofs.Common.{Option, None, Some}
 use Rattle.std.proofs.lemmas.List.{drop_more}
 use Rattle.std.proofs.lemmas.List.Sums.{sum_by-append}
 use Rattle.toml.specs.Data.{Data}
@@ -14,11 +15,14 @@ use Rattle.recipe_files.specs.Faults.{first_fault}
 abbrev pub fault_from : (Data → Option Fault) → List Value → ℕ → Option Fault
 fault_from test vs i = first_fault (map test (map view (drop i vs)))
 
-pub fault_from-past : (test : Data → Option Fault) (vs : List Value) (i : ℕ) (v : Value) → i < length vs
+pub fault_from-past : (test : Data → Option Fault) (vs : List Value) (i : ℕ) (v : Value)
+    → i < length vs
     → test (view (get_or vs i v)) ≡ None → fault_from test vs i ≡ fault_from test vs (i + 1)
 fault_from-past test vs i v within none = rw (drop_more vs i v within, none)
 
-pub fault_from-here : (test : Data → Option Fault) (vs : List Value) (i : ℕ) (v : Value) (fault : Fault) → i < length vs
+pub fault_from-here : (test : Data → Option Fault) (vs : List Value) (i : ℕ) (v : Value)
+    (fault : Fault)
+    → i < length vs
     → test (view (get_or vs i v)) ≡ Some fault → fault_from test vs i ≡ Some fault
 fault_from-here test vs i v fault within some = rw (drop_more vs i v within, some)
 
@@ -26,14 +30,16 @@ fault_from-here test vs i v fault within some = rw (drop_more vs i v within, som
 abbrev pub entry_fault_from : ℕ → List DeviceValue → List Value → ℕ → Option Fault
 entry_fault_from room earlier vs i = first_fault (entry_tests room earlier (map view (drop i vs)))
 
-pub entry_fault_from-past : (room left : ℕ) (earlier later : List DeviceValue) (vs : List Value) (i : ℕ) (v : Value)
+pub entry_fault_from-past : (room left : ℕ) (earlier later : List DeviceValue) (vs : List Value)
+    (i : ℕ) (v : Value)
     → i < length vs → entry_test room earlier (view (get_or vs i v)) ≡ None
     → Adds earlier (device_of (view (get_or vs i v))) later room left
     → entry_fault_from room earlier vs i ≡ entry_fault_from left later vs (i + 1)
 entry_fault_from-past room left earlier later vs i v within none more =
     rw (drop_more vs i v within, none, more.items, more.rest)
 
-pub entry_fault_from-here : (room : ℕ) (earlier : List DeviceValue) (vs : List Value) (i : ℕ) (v : Value) (fault : Fault)
+pub entry_fault_from-here : (room : ℕ) (earlier : List DeviceValue) (vs : List Value) (i : ℕ)
+    (v : Value) (fault : Fault)
     → i < length vs → entry_test room earlier (view (get_or vs i v)) ≡ Some fault
     → entry_fault_from room earlier vs i ≡ Some fault
 entry_fault_from-here room earlier vs i v fault within some = rw (drop_more vs i v within, some)

@@ -1,5 +1,7 @@
--- A board's text: the document that `toml` reads of it, its tests in order, and the board that it says.
-use Rattle.std.specs.Prelude.{◌≡◌, ℕ, Bool, String, List, [], ◌∷◌, length, map, nat_lt, ◌==◌, Option, None, Some, Result, Ok, Err, if◌then◌else◌}
+-- A board's text: the document that `toml` reads of it, its tests in order, and the board that it
+-- says.
+use Rattle.std.specs.Prelude.{◌≡◌, ℕ, Bool, String, List, [], ◌∷◌, length, map, nat_lt, ◌==◌}
+use Rattle.std.specs.Prelude.{Option, None, Some, Result, Ok, Err, if◌then◌else◌}
 use Rattle.std.specs.BTreeMap.{BTreeMap}
 use Rattle.std.specs.declared.alloc.Global.{Global}
 use Rattle.std.specs.Str.{is_utf8}
@@ -10,7 +12,8 @@ use Rattle.toml.specs.Parse.{parse_document}
 use Rattle.bench_model.specs.Boards.{BoardValue, least_bank, most_capacity}
 use Rattle.bench_model.specs.declared.limits.TheConstants.{MAX_STORE}
 use Rattle.recipe_files.specs.declared.faults.BadKind.{BadKind}
-use Rattle.recipe_files.specs.declared.faults.BadKind.TheVariants.{BadToml, MissingKey, BankTooSmall}
+use Rattle.recipe_files.specs.declared.faults.BadKind.TheVariants.{BadToml, MissingKey}
+use Rattle.recipe_files.specs.declared.faults.BadKind.TheVariants.{BankTooSmall}
 use Rattle.recipe_files.specs.declared.faults.Fault.{Fault}
 use Rattle.recipe_files.specs.declared.faults.FileFault.{FileFault}
 use Rattle.recipe_files.specs.declared.faults.FileFault.TheVariants.{Bad, Memory}

@@ -1,13 +1,15 @@
--- The tables of devices in a board's text. Their keys are tested in this order, and a name or a triple that an
--- earlier table has is told at the key of the later one.
-use Rattle.std.specs.Prelude.{◌≡◌, ℕ, ◌-◌, ◌≤◌, nat_lt, List, [], ◌∷◌, ◌++◌, map, Option, None, Some}
+-- The tables of devices in a board's text. Their keys are tested in this order, and a name or a
+-- triple that an earlier table has is told at the key of the later one.
+use Rattle.std.specs.Prelude.{◌≡◌, ℕ, ◌-◌, ◌≤◌, nat_lt, List, [], ◌∷◌, ◌++◌, map, Option, None}
+use Rattle.std.specs.Prelude.{Some}
 use Rattle.toml.specs.Data.{Data, Members, no_members, as_table}
 use Rattle.cu_base.specs.Kept.{Kept}
 use Rattle.bench_model.specs.Devices.{DeviceValue, capacity_of, has_name, has_triple}
 use Rattle.recipe_files.specs.declared.faults.BadKind.TheVariants.{OutOfRange, Repeated, WrongKind}
 use Rattle.recipe_files.specs.declared.faults.Fault.{Fault}
 use Rattle.recipe_files.specs.declared.keys.Key.TheVariants.{Device, Name, TypeId, Index, Instance}
-use Rattle.recipe_files.specs.declared.keys.Key.TheVariants.{FwType, Capacity, Version, Floor, Flags}
+use Rattle.recipe_files.specs.declared.keys.Key.TheVariants.{FwType, Capacity, Version, Floor}
+use Rattle.recipe_files.specs.declared.keys.Key.TheVariants.{Flags}
 use Rattle.recipe_files.specs.declared.devices.Factory.{Factory}
 use Rattle.bench_model.specs.declared.limits.TheConstants.{MAX_CAPACITY, MAX_FW_TYPE, MIN_CAPACITY}
 use Rattle.recipe_files.specs.Faults.{fault_if, first_fault}

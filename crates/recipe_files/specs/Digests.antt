@@ -1,5 +1,6 @@
 -- A digest in a board's text: its 32 bytes in 64 lower-case hexadecimal digits.
-use Rattle.std.specs.Prelude.{ℕ, Bool, ◌||◌, List, replicate, Option, None, option_map, is_some, unwrap_or, if◌then◌else◌}
+use Rattle.std.specs.Prelude.{ℕ, Bool, ◌||◌, List, replicate, Option, None, option_map, is_some}
+use Rattle.std.specs.Prelude.{unwrap_or, if◌then◌else◌}
 use Rattle.std.specs.List.{list_all}
 use Rattle.std.specs.Result.{result_ok}
 use Rattle.hex.specs.Hex.{decode_sized}
@@ -23,7 +24,8 @@ digest_of_bytes bytes = record { bytes = bytes }
 -- the digest that a text shows
 abbrev pub digest_of_text : List ℕ → Option Digest
 digest_of_text text =
-    if list_all is_lower_digit text then option_map digest_of_bytes (result_ok (decode_sized text 32)) else None
+    if list_all is_lower_digit text then option_map digest_of_bytes
+    (result_ok (decode_sized text 32)) else None
 
 -- the fault of an entry as a digest
 unfoldable pub digest_test : Data → Option Fault

@@ -1,5 +1,6 @@
 -- Faults told by the first test that finds one.
-use Rattle.std.specs.Prelude.{◌≡◌, Bool, List, [], ◌∷◌, Option, None, Some, Result, Ok, Err, if◌then◌else◌}
+use Rattle.std.specs.Prelude.{◌≡◌, Bool, List, [], ◌∷◌, Option, None, Some, Result, Ok, Err}
+use Rattle.std.specs.Prelude.{if◌then◌else◌}
 use Rattle.recipe_files.specs.declared.faults.BadKind.{BadKind}
 use Rattle.recipe_files.specs.declared.faults.Fault.{Fault}
 use Rattle.recipe_files.specs.declared.faults.Stop.{Stop}
@@ -16,7 +17,8 @@ first_fault [] = None
 first_fault (None ∷ tests) = first_fault tests
 first_fault (Some fault ∷ tests) = Some fault
 
--- a value with this property exactly where the test finds no fault, else the fault; or want of memory
+-- a value with this property exactly where the test finds no fault, else the fault; or want of
+-- memory
 abbrev pub Reads : {V : Type 0} → Option Fault → (V → Type 0) → Result V Stop → Type 0
 Reads test IsRead (Ok v) = (test ≡ None) × IsRead v
 Reads test IsRead (Err (Bad fault)) = test ≡ Some fault

@@ -1,13 +1,17 @@
--- The test of a key: it is there, its value is of the kind that the key takes, and within its limits.
-use Rattle.std.specs.Prelude.{ℕ, ℤ, pos, negsuc, Bool, false, ◌&&◌, length, nat_le, Option, None, Some, option_map, is_ok, if◌then◌else◌}
+-- The test of a key: it is there, its value is of the kind that the key takes, and within its
+-- limits.
+use Rattle.std.specs.Prelude.{ℕ, ℤ, pos, negsuc, Bool, false, ◌&&◌, length, nat_le, Option, None}
+use Rattle.std.specs.Prelude.{Some, option_map, is_ok, if◌then◌else◌}
 use Rattle.toml.specs.Data.{Data, Members, as_array, as_integer, as_str, get_member}
 use Rattle.cu_base.specs.Guids.{guid_of_text}
 use Rattle.bench_model.specs.Names.{is_device_name}
 use Rattle.recipe_files.specs.declared.faults.BadKind.{BadKind}
-use Rattle.recipe_files.specs.declared.faults.BadKind.TheVariants.{MissingKey, WrongKind, OutOfRange, BadGuid}
+use Rattle.recipe_files.specs.declared.faults.BadKind.TheVariants.{MissingKey, WrongKind}
+use Rattle.recipe_files.specs.declared.faults.BadKind.TheVariants.{OutOfRange, BadGuid}
 use Rattle.recipe_files.specs.declared.faults.Fault.{Fault}
 use Rattle.recipe_files.specs.declared.keys.Key.{Key}
-use Rattle.recipe_files.specs.Keys.{Values, nothing, numbers, names, layouts, guids, lists, optional}
+use Rattle.recipe_files.specs.Keys.{Values, nothing, numbers, names, layouts, guids, lists}
+use Rattle.recipe_files.specs.Keys.{optional}
 use Rattle.recipe_files.specs.Keys.{key_name, values_of}
 use Rattle.recipe_files.specs.Values.{entries, is_layout}
 

@@ -1,9 +1,11 @@
 -- The values that a table holds at its keys.
-use Rattle.std.specs.Prelude.{ℕ, ℤ, pos, negsuc, Bool, ◌||◌, List, [], ◌∷◌, codes, replicate, unwrap_or}
+use Rattle.std.specs.Prelude.{ℕ, ℤ, pos, negsuc, Bool, ◌||◌, List, [], ◌∷◌, codes, replicate}
+use Rattle.std.specs.Prelude.{unwrap_or}
 use Rattle.std.specs.Option.{option_map_or}
 use Rattle.std.specs.Result.{result_unwrap_or}
 use Rattle.std.specs.Str.{bytes_eq}
-use Rattle.toml.specs.Data.{Data, Items, no_items, item, Members, as_array, as_integer, as_str, get_member}
+use Rattle.toml.specs.Data.{Data, Items, no_items, item, Members, as_array, as_integer, as_str}
+use Rattle.toml.specs.Data.{get_member}
 use Rattle.cu_base.specs.declared.guid.Guid.{Guid}
 use Rattle.cu_base.specs.Guids.{guid_of_text}
 use Rattle.recipe_files.specs.declared.keys.Key.{Key}

@@ -92,11 +92,11 @@ fn read_text(alloc: Global, bytes: &[u8]) -> Result<Board, Stop>
     read_table(alloc, &table)
 }
 
-/// The board of a text. A text that is refused is told as `Bad`, with the first fault in the order of
-/// the keys and of the tables, and the plain name of its key: `BadToml` where the bytes are no document
-/// that `toml` accepts; `MissingKey`, `WrongKind`, `OutOfRange` and `BadGuid` at a key; `Repeated` at the
-/// name or the instance of a later table; `BankTooSmall` after all others. Unknown keys are ignored.
-/// `Memory` is told where memory ran out.
+/// The board of a text. A text that is refused is told as `Bad`, with the first fault in the order
+/// of the keys and of the tables, and the plain name of its key: `BadToml` where the bytes are no
+/// document that `toml` accepts; `MissingKey`, `WrongKind`, `OutOfRange` and `BadGuid` at a key;
+/// `Repeated` at the name or the instance of a later table; `BankTooSmall` after all others.
+/// Unknown keys are ignored. `Memory` is told where memory ran out.
 #[tactic(auto, using(crate::proofs::Documents::told))]
 pub fn read_board(alloc: Global, bytes: &[u8]) -> Result<Board, FileFault>
     ensures ok { IfOk result (λ board. board_text bytes.now ≡ Ok board) }

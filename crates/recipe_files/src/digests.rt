@@ -1,7 +1,8 @@
 ghost use Rattle.std.specs.Prelude.{◌≡◌, Some, None, MatchResult, map};
 ghost use Rattle.std.specs.List.{list_all};
 ghost use Rattle.toml.specs.View.{view};
-ghost use Rattle.recipe_files.specs.Digests.{is_lower_digit, digest_of, digest_of_text, digest_test};
+ghost use Rattle.recipe_files.specs.Digests.{is_lower_digit, digest_of, digest_of_text};
+ghost use Rattle.recipe_files.specs.Digests.{digest_test};
 ghost use Rattle.recipe_files.specs.Faults.{Reads, first_fault};
 
 use crate::faults::{BadKind, Fault, Stop};
@@ -54,7 +55,8 @@ fn digest_of(value: &Value) -> Result<Digest, Fault>
 
 /// The digests of a list.
 pub(crate) fn read_digests(alloc: Global, list: &Array) -> Result<Digests, Stop>
-    ensures { Reads (first_fault (map digest_test (map view list.now.items))) (λ digests. digests.items ≡ map digest_of (map view list.now.items)) result }
+    ensures { Reads (first_fault (map digest_test (map view list.now.items)))
+        (λ digests. digests.items ≡ map digest_of (map view list.now.items)) result }
 {
     let mut digests = Digests::new(alloc);
     for value in list {

@@ -1,5 +1,5 @@
-//! Boards read from their texts, which are TOML. What a text says, and the first fault of a text that
-//! is refused, is a definition over the document that `toml` reads.
+//! Boards read from their texts, which are TOML. What a text says, and the first fault of a text
+//! that is refused, is a definition over the document that `toml` reads.
 #![tactic(auto)]
 
 mod board;

@@ -1,19 +1,27 @@
 -- In every machine that is reached files, staged deliveries and the serials in kept are within
 -- their limits.
-use Rattle.std.proofs.Common.{◌≡◌, ℕ, zero, suc, ◌+◌, ◌≤◌, ◌^◌, ◌-◌, inl, inr, Bool, true, false, cond, not, ◌&&◌, ◌||◌, ◌==◌, List, [], ◌∷◌, ◌++◌, length, map, filter, find, nat_lt, nat_le, refl, arith, sym, ap, ◌∙◌, subst, Option, Some, None}
+use Rattle.std.proofs.Common.{◌≡◌, ℕ, zero, suc, ◌+◌, ◌≤◌, ◌^◌, ◌-◌, inl, inr, Bool, true, false}
+use Rattle.std.proofs.Common.{cond, not, ◌&&◌, ◌||◌, ◌==◌, List, [], ◌∷◌, ◌++◌, length, map, filter}
+use Rattle.std.proofs.Common.{find, nat_lt, nat_le, refl, arith, sym, ap, ◌∙◌, subst, Option, Some}
+use Rattle.std.proofs.Common.{None}
 use Rattle.std.specs.List.{AllByRecursion, list_any}
 use Rattle.std.proofs.lemmas.Bool.Decides.{nat_tests}
 use Rattle.std.proofs.lemmas.List.{length-append}
-use Rattle.reference_machine.specs.declared.limits.TheConstants.{MAX_FOLDER_BYTES, MAX_FILES, MAX_STAGED}
+use Rattle.reference_machine.specs.declared.limits.TheConstants.{MAX_FOLDER_BYTES, MAX_FILES}
+use Rattle.reference_machine.specs.declared.limits.TheConstants.{MAX_STAGED}
 use Rattle.reference_machine.specs.declared.snapshot.StagedPair.{StagedPair}
 use Rattle.reference_machine.specs.declared.unit.End.{End}
-use Rattle.reference_machine.specs.Boots.{BootTask, BootState, Course, after, after_unit, after_steps, boot_start, boot_at, boot_tasks, tasks_with, is_file, progress_with, course_of, element_of, settled, settled_with, closed_with, staged_tasks, folder_tasks}
+use Rattle.reference_machine.specs.Boots.{BootTask, BootState, Course, after, after_unit}
+use Rattle.reference_machine.specs.Boots.{after_steps, boot_start, boot_at, boot_tasks, tasks_with}
+use Rattle.reference_machine.specs.Boots.{is_file, progress_with, course_of, element_of, settled}
+use Rattle.reference_machine.specs.Boots.{settled_with, closed_with, staged_tasks, folder_tasks}
 use Rattle.reference_machine.specs.Boots.BootTask.{Settles, Unstages, Does, Prunes, Removes, Clears}
 use Rattle.reference_machine.specs.Boots.Course.{Claim, Close}
 use Rattle.reference_machine.specs.Deliveries.{BootUnit}
 use Rattle.reference_machine.specs.Events.{bytes_beside, staging_refusal, coalesced_refusal}
 use Rattle.reference_machine.specs.Formats.{Formats}
-use Rattle.reference_machine.specs.Laws.{IsWithinLimits, IsGiven, SerialsAreGiven, progress_with_open}
+use Rattle.reference_machine.specs.Laws.{IsWithinLimits, IsGiven, SerialsAreGiven}
+use Rattle.reference_machine.specs.Laws.{progress_with_open}
 use Rattle.reference_machine.specs.Stops.{IsHeldEnd}
 use Rattle.reference_machine.specs.Machine.{Machine, File}
 use Rattle.reference_machine.specs.Names.{is_same_name}
@@ -25,11 +33,14 @@ use Rattle.reference_machine.proofs.Filing.{has, serials_of}
 use Rattle.reference_machine.proofs.FilingWork.{has_each}
 use Rattle.reference_machine.proofs.Going.{Going, Sound, start_going, steps_going}
 use Rattle.reference_machine.proofs.Keeping.{Keeps}
-use Rattle.reference_machine.proofs.KeptLemmas.{KeptIs, Ready, kept_in, kept_unit, kept_pruned, all_without, filter_most, filter_fewer, ready_work}
+use Rattle.reference_machine.proofs.KeptLemmas.{KeptIs, Ready, kept_in, kept_unit, kept_pruned}
+use Rattle.reference_machine.proofs.KeptLemmas.{all_without, filter_most, filter_fewer, ready_work}
 use Rattle.reference_machine.proofs.Keyed.{Keyed}
 use Rattle.reference_machine.proofs.Keys.{count, keys_of}
-use Rattle.reference_machine.proofs.Lists.{Rests, Pends, NoneOpen, find_none, find_last, none_more, settled_list}
-use Rattle.reference_machine.proofs.SpentFiles.{Filed, Files, steps_filed, start_filed, files_keeps, boot_files, settled_files}
+use Rattle.reference_machine.proofs.Lists.{Rests, Pends, NoneOpen, find_none, find_last, none_more}
+use Rattle.reference_machine.proofs.Lists.{settled_list}
+use Rattle.reference_machine.proofs.SpentFiles.{Filed, Files, steps_filed, start_filed, files_keeps}
+use Rattle.reference_machine.proofs.SpentFiles.{boot_files, settled_files}
 
 -- what is kept of a machine
 abbrev pub kept_now : Machine → List ℕ
@@ -57,7 +68,8 @@ unit_bounded f serials b u rest Claim none r k =
     subst (λ ns. KeptIs serials m.last_file ns (Does u ∷ rest))
     (kept_resting m none) k.in_progress in
     let more : KeptIs serials m.last_file (progress_with m.in_progress u.key) rest =
-    kept_unit serials m.last_staged m.last_file m.in_progress u rest k.few r.below r.known.0 before in
+    kept_unit serials m.last_staged m.last_file m.in_progress u rest k.few r.below r.known.0 before
+    in
     let is : progress_with_open m.in_progress (find is_open (m.list ++ e ∷ []))
     ≡ progress_with m.in_progress u.key =
     ap (progress_with_open m.in_progress) (find_last m.list e none refl) in
@@ -78,7 +90,8 @@ unit_bounded f serials b u rest (Close end) none r k =
     subst (λ ns. KeptIs serials m.last_file ns (Does u ∷ rest))
     (kept_resting m none) k.in_progress in
     let more : KeptIs serials m.last_file (progress_with m.in_progress u.key) rest =
-    kept_unit serials m.last_staged m.last_file m.in_progress u rest k.few r.below r.known.0 before in
+    kept_unit serials m.last_staged m.last_file m.in_progress u rest k.few r.below r.known.0 before
+    in
     let is : progress_with_open (progress_with m.in_progress u.key)
     (find is_open (m.list ++ e ∷ [])) ≡ progress_with m.in_progress u.key =
     ap (progress_with_open (progress_with m.in_progress u.key))

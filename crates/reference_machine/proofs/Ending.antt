@@ -1,7 +1,10 @@
 -- A boot comes to its end: each step leaves less work, and a piece of work takes at most two steps.
-use Rattle.std.proofs.Common.{◌≡◌, ℕ, zero, suc, ◌+◌, ◌-◌, ◌*◌, ◌≤◌, inl, inr, List, [], ◌∷◌, length, refl, arith, ap, ◌∙◌, subst, Option, Some, None, find}
+use Rattle.std.proofs.Common.{◌≡◌, ℕ, zero, suc, ◌+◌, ◌-◌, ◌*◌, ◌≤◌, inl, inr, List, [], ◌∷◌}
+use Rattle.std.proofs.Common.{length, refl, arith, ap, ◌∙◌, subst, Option, Some, None, find}
 use Rattle.reference_machine.specs.declared.unit.End.{End}
-use Rattle.reference_machine.specs.Boots.{BootTask, BootState, Course, after, after_unit, next, after_steps, boot_start, boot_of, boot_tasks, course_of, settled_with}
+use Rattle.reference_machine.specs.Boots.{BootTask, BootState, Course, after, after_unit, next}
+use Rattle.reference_machine.specs.Boots.{after_steps, boot_start, boot_of, boot_tasks, course_of}
+use Rattle.reference_machine.specs.Boots.{settled_with}
 use Rattle.reference_machine.specs.Boots.BootTask.{Settles, Unstages, Does, Prunes, Removes, Clears}
 use Rattle.reference_machine.specs.Boots.Course.{Claim, Close}
 use Rattle.reference_machine.specs.Deliveries.{BootUnit}

@@ -1,7 +1,11 @@
 -- Units of files alone add to what is kept, and the request is cleared when no file is left.
-use Rattle.std.proofs.Common.{◌≡◌, ℕ, ◌+◌, ◌≤◌, inl, inr, Bool, true, false, cond, not, ◌||◌, ◌==◌, List, [], ◌∷◌, ◌++◌, map, filter, flat_map, drop, refl, arith, sym, ap, ◌∙◌, subst, append_assoc, option_and_then}
+use Rattle.std.proofs.Common.{◌≡◌, ℕ, ◌+◌, ◌≤◌, inl, inr, Bool, true, false, cond, not, ◌||◌, ◌==◌}
+use Rattle.std.proofs.Common.{List, [], ◌∷◌, ◌++◌, map, filter, flat_map, drop, refl, arith, sym}
+use Rattle.std.proofs.Common.{ap, ◌∙◌, subst, append_assoc, option_and_then}
 use Rattle.std.specs.List.{AllByRecursion}
-use Rattle.reference_machine.specs.Boots.{BootTask, file_tasks, file_delivery, files_in_order, folder_tasks, memory_delivery, pair_tasks, prune_tasks, staged_in_order, staged_tasks}
+use Rattle.reference_machine.specs.Boots.{BootTask, file_tasks, file_delivery, files_in_order}
+use Rattle.reference_machine.specs.Boots.{folder_tasks, memory_delivery, pair_tasks, prune_tasks}
+use Rattle.reference_machine.specs.Boots.{staged_in_order, staged_tasks}
 use Rattle.reference_machine.specs.Boots.BootTask.{Does, Prunes, Removes, Clears}
 use Rattle.reference_machine.specs.declared.snapshot.StagedPair.{StagedPair}
 use Rattle.reference_machine.specs.Deliveries.{BootUnit, pieces, units}
@@ -11,7 +15,8 @@ use Rattle.reference_machine.specs.Names.{is_taken_before}
 use Rattle.reference_machine.specs.Order.{inserted, in_order}
 use Rattle.reference_machine.specs.Spent.{spent}
 use Rattle.reference_machine.proofs.Apart.{all_both, all_kept, all_imply, kept_pass}
-use Rattle.reference_machine.proofs.Filing.{has, serials_of, or_right, same, Known, known_append, known_units, Empties, empties_does}
+use Rattle.reference_machine.proofs.Filing.{has, serials_of, or_right, same, Known, known_append}
+use Rattle.reference_machine.proofs.Filing.{known_units, Empties, empties_does}
 use Rattle.reference_machine.proofs.Keys.{Numbered, all_numbered, rest_numbered}
 use Rattle.reference_machine.proofs.Ordered.{all_ordered}
 

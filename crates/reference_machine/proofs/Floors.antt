@@ -1,5 +1,6 @@
 -- The floor in force along the list of spent units.
-use Rattle.std.proofs.Common.{ℕ, ◌≤◌, Bool, true, false, cond, List, [], ◌∷◌, ◌++◌, map, arith, filter}
+use Rattle.std.proofs.Common.{ℕ, ◌≤◌, Bool, true, false, cond, List, [], ◌∷◌, ◌++◌, map, arith}
+use Rattle.std.proofs.Common.{filter}
 use Rattle.bench_model.specs.Boards.{BoardValue}
 use Rattle.reference_machine.specs.Spent.{Element, floor_of, factory_floor, greatest}
 

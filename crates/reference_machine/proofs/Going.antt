@@ -1,23 +1,34 @@
 -- A boot under way: nothing is open and no settlement is left, or the last element is open and is
 -- settled next.
-use Rattle.std.proofs.Common.{◌≡◌, ℕ, zero, suc, ◌≤◌, ◌⊎◌, inl, inr, Bool, true, false, cond, List, [], ◌∷◌, ◌++◌, length, map, flat_map, find, refl, sym, ap, ◌∙◌, subst, Option, Some, None, nat_le, drop, T}
+use Rattle.std.proofs.Common.{◌≡◌, ℕ, zero, suc, ◌≤◌, ◌⊎◌, inl, inr, Bool, true, false, cond, List}
+use Rattle.std.proofs.Common.{[], ◌∷◌, ◌++◌, length, map, flat_map, find, refl, sym, ap, ◌∙◌, subst}
+use Rattle.std.proofs.Common.{Option, Some, None, nat_le, drop, T}
 use lib.Dec.{leb→le}
 use Rattle.reference_machine.specs.declared.unit.End.{End}
 use Rattle.reference_machine.specs.declared.unit.End.TheVariants.{Refused}
 use Rattle.reference_machine.specs.declared.unit.Kind.{Kind}
 use Rattle.reference_machine.specs.declared.unit.Kind.TheVariants.{Try, Heal, Skip, NoTarget, Bad}
-use Rattle.reference_machine.specs.Boots.{BootTask, BootState, Course, after, after_unit, after_steps, boot_start, boot_at, boot_tasks, tasks_with, staged_tasks, folder_tasks, file_tasks, file_delivery, files_in_order, pair_tasks, memory_delivery, staged_in_order, prune_tasks, course_of, course_of_try, element_of, element_with, parts_tried, settled, settled_with}
+use Rattle.reference_machine.specs.Boots.{BootTask, BootState, Course, after, after_unit}
+use Rattle.reference_machine.specs.Boots.{after_steps, boot_start, boot_at, boot_tasks, tasks_with}
+use Rattle.reference_machine.specs.Boots.{staged_tasks, folder_tasks, file_tasks, file_delivery}
+use Rattle.reference_machine.specs.Boots.{files_in_order, pair_tasks, memory_delivery}
+use Rattle.reference_machine.specs.Boots.{staged_in_order, prune_tasks, course_of, course_of_try}
+use Rattle.reference_machine.specs.Boots.{element_of, element_with, parts_tried, settled}
+use Rattle.reference_machine.specs.Boots.{settled_with}
 use Rattle.reference_machine.specs.Boots.BootTask.{Settles, Unstages, Does, Prunes, Removes, Clears}
 use Rattle.reference_machine.specs.Boots.Course.{Claim, Close}
 use Rattle.reference_machine.specs.Deliveries.{BootUnit, units}
 use Rattle.reference_machine.specs.Formats.{Formats, Parts}
 use Rattle.reference_machine.specs.Stops.{IsHeldEnd}
 use Rattle.reference_machine.specs.Machine.{Machine, File}
-use Rattle.reference_machine.specs.Spent.{spent, Element, is_open, is_attempt, is_attempted, floor_of}
+use Rattle.reference_machine.specs.Spent.{spent, Element, is_open, is_attempt, is_attempted}
+use Rattle.reference_machine.specs.Spent.{floor_of}
 use Rattle.reference_machine.specs.Spent.Standing.{Open, Closed}
 use Rattle.image_parts.specs.Admission.{is_admitted}
-use Rattle.reference_machine.specs.Verdicts.{refusal, refusal_with, first_failed, capacity_of, keeps_dependencies}
-use Rattle.reference_machine.proofs.Lists.{Rests, Pends, above_more, none_more, find_none, find_last, settled_list}
+use Rattle.reference_machine.specs.Verdicts.{refusal, refusal_with, first_failed, capacity_of}
+use Rattle.reference_machine.specs.Verdicts.{keeps_dependencies}
+use Rattle.reference_machine.proofs.Lists.{Rests, Pends, above_more, none_more, find_none}
+use Rattle.reference_machine.proofs.Lists.{find_last, settled_list}
 
 -- no settlement is left
 abbrev pub NoSettles : List BootTask → Type 0

@@ -1,7 +1,10 @@
 -- The list of spent units only grows, but for its last element closing.
-use Rattle.std.proofs.Common.{◌≡◌, ℕ, zero, suc, inl, inr, List, [], ◌∷◌, ◌++◌, map, find, refl, sym, ap, ◌∙◌, subst, append_assoc, append-nil, Option, Some, None}
+use Rattle.std.proofs.Common.{◌≡◌, ℕ, zero, suc, inl, inr, List, [], ◌∷◌, ◌++◌, map, find, refl}
+use Rattle.std.proofs.Common.{sym, ap, ◌∙◌, subst, append_assoc, append-nil, Option, Some, None}
 use Rattle.reference_machine.specs.declared.unit.End.{End}
-use Rattle.reference_machine.specs.Boots.{BootTask, BootState, Course, after, after_unit, next, after_steps, boot_start, boot_at, boot_tasks, tasks_with, closed_with, course_of, settled_with}
+use Rattle.reference_machine.specs.Boots.{BootTask, BootState, Course, after, after_unit, next}
+use Rattle.reference_machine.specs.Boots.{after_steps, boot_start, boot_at, boot_tasks, tasks_with}
+use Rattle.reference_machine.specs.Boots.{closed_with, course_of, settled_with}
 use Rattle.reference_machine.specs.Boots.BootTask.{Settles, Unstages, Does, Prunes, Removes, Clears}
 use Rattle.reference_machine.specs.Boots.Course.{Claim, Close}
 use Rattle.reference_machine.specs.Deliveries.{BootUnit}
@@ -13,7 +16,8 @@ use Rattle.reference_machine.specs.Spent.{Element, is_open}
 use Rattle.reference_machine.specs.TraceValues.{EntryValue}
 use Rattle.reference_machine.proofs.Going.{Sound}
 use Rattle.reference_machine.proofs.Keeping.{Leads, step_leads}
-use Rattle.reference_machine.proofs.Lists.{NoneOpen, Pends, closed, closed_more, closed_stays, find_last, none_more}
+use Rattle.reference_machine.proofs.Lists.{NoneOpen, Pends, closed, closed_more, closed_stays}
+use Rattle.reference_machine.proofs.Lists.{find_last, none_more}
 
 -- the list is this one and more
 abbrev pub Extends : List Element → List Element → Type 0

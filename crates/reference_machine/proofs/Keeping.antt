@@ -1,15 +1,22 @@
 -- What each event keeps holds of every machine that is reached: an event changes the machine in a
 -- few ways only.
-use Rattle.std.proofs.Common.{◌≡◌, ℕ, suc, ◌+◌, ◌*◌, ◌⊎◌, inl, inr, Bool, true, false, cond, List, [], ◌∷◌, length, refl, sym, subst, Option, Some, None}
+use Rattle.std.proofs.Common.{◌≡◌, ℕ, suc, ◌+◌, ◌*◌, ◌⊎◌, inl, inr, Bool, true, false, cond, List}
+use Rattle.std.proofs.Common.{[], ◌∷◌, length, refl, sym, subst, Option, Some, None}
 use Rattle.cu_base.specs.declared.time.EfiTime.{EfiTime}
 use Rattle.reference_machine.specs.declared.unit.End.{End}
 use Rattle.reference_machine.specs.declared.unit.End.TheVariants.{Sealed, Kept, Lost}
 use Rattle.reference_machine.specs.Boots.{boot_at, boot_of, boot_tasks}
 use Rattle.bench_model.specs.Boards.{BoardValue}
-use Rattle.reference_machine.specs.Events.{IsStopped, Act, Outcome, IsIn, Step, outcome, other_outcomes, stage_faults, stage_done, stage_refusal, failed, with_file, is_folder_full, signalled, with_segment, with_staged, cold, warm, wraps, is_memory_full, plain}
-use Rattle.reference_machine.specs.Events.Act.{Time, Drop, Signal, Lay, Stage, Boot, Arm, Fail, Reset, Show}
+use Rattle.reference_machine.specs.Events.{IsStopped, Act, Outcome, IsIn, Step, outcome}
+use Rattle.reference_machine.specs.Events.{other_outcomes, stage_faults, stage_done, stage_refusal}
+use Rattle.reference_machine.specs.Events.{failed, with_file, is_folder_full, signalled}
+use Rattle.reference_machine.specs.Events.{with_segment, with_staged, cold, warm, wraps}
+use Rattle.reference_machine.specs.Events.{is_memory_full, plain}
+use Rattle.reference_machine.specs.Events.Act.{Time, Drop, Signal, Lay, Stage, Boot, Arm, Fail}
+use Rattle.reference_machine.specs.Events.Act.{Reset, Show}
 use Rattle.reference_machine.specs.Formats.{Formats}
-use Rattle.reference_machine.specs.Stops.{StopCause, IsHeldEnd, Agrees, AgreesAfterFlash, AgreesAfterVolume, IsStoppedAt, IsStoppedAfter}
+use Rattle.reference_machine.specs.Stops.{StopCause, IsHeldEnd, Agrees, AgreesAfterFlash}
+use Rattle.reference_machine.specs.Stops.{AgreesAfterVolume, IsStoppedAt, IsStoppedAfter}
 use Rattle.reference_machine.specs.Laws.{IsReached}
 use Rattle.reference_machine.specs.Laws.IsReached.{Fresh, ByEvent, BySteps}
 use Rattle.reference_machine.specs.Machine.{Machine, fresh}

@@ -1,17 +1,22 @@
 -- The serials in kept: none twice, and few, since the work on a folder begins with those of its
 -- files alone.
-use Rattle.std.proofs.Common.{◌≡◌, ℕ, ◌+◌, ◌≤◌, inl, inr, Bool, true, false, cond, not, ◌||◌, ◌==◌, List, [], ◌∷◌, ◌++◌, length, map, filter, flat_map, refl, arith, sym, ap, ◌∙◌, subst, append_assoc, option_and_then}
+use Rattle.std.proofs.Common.{◌≡◌, ℕ, ◌+◌, ◌≤◌, inl, inr, Bool, true, false, cond, not, ◌||◌, ◌==◌}
+use Rattle.std.proofs.Common.{List, [], ◌∷◌, ◌++◌, length, map, filter, flat_map, refl, arith, sym}
+use Rattle.std.proofs.Common.{ap, ◌∙◌, subst, append_assoc, option_and_then}
 use Rattle.std.specs.List.{AllByRecursion, list_any}
 use Rattle.reference_machine.specs.declared.limits.TheConstants.{MAX_FILES}
 use Rattle.reference_machine.specs.declared.snapshot.StagedPair.{StagedPair}
 use Rattle.reference_machine.specs.declared.unit.UnitKey.{UnitKey}
-use Rattle.reference_machine.specs.Boots.{BootTask, progress_with, is_file, file_tasks, files_in_order, folder_tasks, memory_delivery, pair_tasks, staged_in_order, staged_tasks}
+use Rattle.reference_machine.specs.Boots.{BootTask, progress_with, is_file, file_tasks}
+use Rattle.reference_machine.specs.Boots.{files_in_order, folder_tasks, memory_delivery, pair_tasks}
+use Rattle.reference_machine.specs.Boots.{staged_in_order, staged_tasks}
 use Rattle.reference_machine.specs.Boots.BootTask.{Settles, Unstages, Does, Prunes, Removes, Clears}
 use Rattle.reference_machine.specs.Deliveries.{BootUnit, pieces, units}
 use Rattle.reference_machine.specs.Formats.{Formats}
 use Rattle.reference_machine.specs.Laws.{Distinct}
 use Rattle.reference_machine.specs.Machine.{File, Machine}
-use Rattle.reference_machine.proofs.Apart.{all_both, all_kept, all_imply, all_more, distinct_kept, distinct_more, kept_pass}
+use Rattle.reference_machine.proofs.Apart.{all_both, all_kept, all_imply, all_more, distinct_kept}
+use Rattle.reference_machine.proofs.Apart.{distinct_more, kept_pass}
 use Rattle.reference_machine.proofs.Filing.{has, same_of, has_all, has_filter, IsKnown}
 use Rattle.reference_machine.proofs.Keys.{Numbered, all_numbered}
 use Rattle.reference_machine.proofs.Ordered.{turned}

@@ -1,11 +1,19 @@
 -- In every machine that is reached the units of each delivery stand in order.
-use Rattle.std.proofs.Common.{◌≡◌, ℕ, zero, suc, ◌+◌, ◌≤◌, inl, inr, Bool, true, false, cond, not, ◌&&◌, ◌==◌, List, [], ◌∷◌, ◌++◌, length, map, filter, flat_map, find, drop, refl, arith, sym, ap, ◌∙◌, subst, append_assoc, Option, Some, None, option_and_then}
+use Rattle.std.proofs.Common.{◌≡◌, ℕ, zero, suc, ◌+◌, ◌≤◌, inl, inr, Bool, true, false, cond, not}
+use Rattle.std.proofs.Common.{◌&&◌, ◌==◌, List, [], ◌∷◌, ◌++◌, length, map, filter, flat_map, find}
+use Rattle.std.proofs.Common.{drop, refl, arith, sym, ap, ◌∙◌, subst, append_assoc, Option, Some}
+use Rattle.std.proofs.Common.{None, option_and_then}
 use Rattle.std.specs.List.{AllByRecursion}
 use Rattle.std.proofs.lemmas.Bool.Decides.{nat_tests}
 use Rattle.reference_machine.specs.declared.snapshot.StagedPair.{StagedPair}
 use Rattle.reference_machine.specs.declared.unit.End.{End}
 use Rattle.reference_machine.specs.declared.unit.UnitKey.{UnitKey}
-use Rattle.reference_machine.specs.Boots.{BootTask, BootState, Course, after, after_unit, after_steps, boot_start, boot_at, boot_tasks, tasks_with, staged_tasks, folder_tasks, file_tasks, file_delivery, files_in_order, pair_tasks, memory_delivery, staged_in_order, prune_tasks, course_of, settled, settled_with}
+use Rattle.reference_machine.specs.Boots.{BootTask, BootState, Course, after, after_unit}
+use Rattle.reference_machine.specs.Boots.{after_steps, boot_start, boot_at, boot_tasks, tasks_with}
+use Rattle.reference_machine.specs.Boots.{staged_tasks, folder_tasks, file_tasks, file_delivery}
+use Rattle.reference_machine.specs.Boots.{files_in_order, pair_tasks, memory_delivery}
+use Rattle.reference_machine.specs.Boots.{staged_in_order, prune_tasks, course_of, settled}
+use Rattle.reference_machine.specs.Boots.{settled_with}
 use Rattle.reference_machine.specs.Boots.BootTask.{Settles, Unstages, Does, Prunes, Removes, Clears}
 use Rattle.reference_machine.specs.Boots.Course.{Claim, Close}
 use Rattle.reference_machine.specs.Deliveries.{BootUnit, pieces, units}
@@ -14,12 +22,16 @@ use Rattle.reference_machine.specs.Laws.{AreApart}
 use Rattle.reference_machine.specs.Stops.{IsHeldEnd}
 use Rattle.reference_machine.specs.Machine.{Machine, File}
 use Rattle.reference_machine.specs.Spent.{Element, is_of, is_open, spent}
-use Rattle.reference_machine.proofs.Apart.{all_kept, all_imply, all_more, kept_pass, no_longer, settled_apart, boot_apart, apart_keeps}
+use Rattle.reference_machine.proofs.Apart.{all_kept, all_imply, all_more, kept_pass, no_longer}
+use Rattle.reference_machine.proofs.Apart.{settled_apart, boot_apart, apart_keeps}
 use Rattle.reference_machine.proofs.Going.{Sound, sound_of, boot_going}
 use Rattle.reference_machine.proofs.Keeping.{Keeps}
-use Rattle.reference_machine.proofs.Keys.{count, keys_of, Gapless, keys_append, keys_closed, gapless_more, Ahead, Numbered, all_numbered, rest_numbered, count_other, spent_all}
+use Rattle.reference_machine.proofs.Keys.{count, keys_of, Gapless, keys_append, keys_closed}
+use Rattle.reference_machine.proofs.Keys.{gapless_more, Ahead, Numbered, all_numbered}
+use Rattle.reference_machine.proofs.Keys.{rest_numbered, count_other, spent_all}
 use Rattle.reference_machine.proofs.Lists.{Rests, NoneOpen, find_none, find_last, settled_list}
-use Rattle.reference_machine.proofs.Ordered.{all_ordered, distinct_ordered, turned, files_ahead, staged_ahead}
+use Rattle.reference_machine.proofs.Ordered.{all_ordered, distinct_ordered, turned, files_ahead}
+use Rattle.reference_machine.proofs.Ordered.{staged_ahead}
 
 pub record Keyed (m : Machine) : Type 0 where
   pub gapless : Gapless [] (keys_of m.list)

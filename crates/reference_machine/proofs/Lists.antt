@@ -1,6 +1,7 @@
 -- A list of spent units between two steps of a boot: either nothing is open, or the last element
 -- alone is.
-use Rattle.std.proofs.Common.{◌≡◌, ◌≤◌, true, false, cond, List, [], ◌∷◌, ◌++◌, map, find, refl, IsTrue, sym, ap, ◌∙◌, subst, append_assoc, append-nil, Some, None}
+use Rattle.std.proofs.Common.{◌≡◌, ◌≤◌, true, false, cond, List, [], ◌∷◌, ◌++◌, map, find, refl}
+use Rattle.std.proofs.Common.{IsTrue, sym, ap, ◌∙◌, subst, append_assoc, append-nil, Some, None}
 use Rattle.cu_base.specs.declared.time.EfiTime.{EfiTime}
 use Rattle.reference_machine.specs.declared.unit.End.{End}
 use Rattle.bench_model.specs.Boards.{BoardValue}

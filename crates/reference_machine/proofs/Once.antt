@@ -1,12 +1,19 @@
 -- Without faults the events leave one machine and tell one trace.
-use Rattle.std.proofs.Common.{◌≡◌, ℕ, ◌+◌, ◌*◌, ◌⊎◌, inl, inr, Bool, true, false, cond, List, [], ◌∷◌, length, refl, sym, ap, ◌∙◌, subst, Option, Some, None}
+use Rattle.std.proofs.Common.{◌≡◌, ℕ, ◌+◌, ◌*◌, ◌⊎◌, inl, inr, Bool, true, false, cond, List, []}
+use Rattle.std.proofs.Common.{◌∷◌, length, refl, sym, ap, ◌∙◌, subst, Option, Some, None}
 use Rattle.reference_machine.specs.declared.unit.End.{End}
 use Rattle.reference_machine.specs.declared.unit.End.TheVariants.{Sealed, Kept, Lost}
-use Rattle.reference_machine.specs.Boots.{BootTask, BootState, boot_of, boot_start, boot_tasks, tasks_with, after_steps}
+use Rattle.reference_machine.specs.Boots.{BootTask, BootState, boot_of, boot_start, boot_tasks}
+use Rattle.reference_machine.specs.Boots.{tasks_with, after_steps}
 use Rattle.reference_machine.specs.declared.trace.BootEnd.{BootEnd}
 use Rattle.reference_machine.specs.Stops.{StopCause}
-use Rattle.reference_machine.specs.Events.{IsStopped, IsToldAs, Act, Outcome, IsIn, Step, Run, outcome, other_outcomes, boot_done, stage_faults, stage_done, stage_refusal, with_file, is_folder_full, with_segment, wraps, is_memory_full, cold, plain, trace_of, machine_after}
-use Rattle.reference_machine.specs.Events.Act.{Time, Drop, Signal, Lay, Stage, Boot, Arm, Fail, Reset, Show}
+use Rattle.reference_machine.specs.Events.{IsStopped, IsToldAs, Act, Outcome, IsIn, Step, Run}
+use Rattle.reference_machine.specs.Events.{outcome, other_outcomes, boot_done, stage_faults}
+use Rattle.reference_machine.specs.Events.{stage_done, stage_refusal, with_file, is_folder_full}
+use Rattle.reference_machine.specs.Events.{with_segment, wraps, is_memory_full, cold, plain}
+use Rattle.reference_machine.specs.Events.{trace_of, machine_after}
+use Rattle.reference_machine.specs.Events.Act.{Time, Drop, Signal, Lay, Stage, Boot, Arm, Fail}
+use Rattle.reference_machine.specs.Events.Act.{Reset, Show}
 use Rattle.reference_machine.specs.Formats.{Formats}
 use Rattle.reference_machine.specs.Laws.{IsNoFaultEnd, IsNoFault, TellNoFault}
 use Rattle.reference_machine.specs.Machine.{Machine}

@@ -1,11 +1,14 @@
 -- Each boot does the units of a delivery in order: its work begins where the list of spent units
 -- ends.
-use Rattle.std.proofs.Common.{◌≡◌, ℕ, suc, ◌+◌, length, ap, Bool, true, false, cond, ◌==◌, List, [], ◌∷◌, ◌++◌, map, flat_map, drop, refl, arith, sym, ◌∙◌, subst, append_assoc}
+use Rattle.std.proofs.Common.{◌≡◌, ℕ, suc, ◌+◌, length, ap, Bool, true, false, cond, ◌==◌, List, []}
+use Rattle.std.proofs.Common.{◌∷◌, ◌++◌, map, flat_map, drop, refl, arith, sym, ◌∙◌, subst}
+use Rattle.std.proofs.Common.{append_assoc}
 use Rattle.std.specs.List.{AllByRecursion, enumerate_from}
 use Rattle.std.proofs.lemmas.Bool.Decides.{nat_tests}
 use Rattle.reference_machine.specs.declared.snapshot.StagedPair.{StagedPair}
 use Rattle.reference_machine.specs.declared.unit.UnitKey.{UnitKey}
-use Rattle.reference_machine.specs.Boots.{BootTask, file_tasks, file_delivery, pair_tasks, memory_delivery}
+use Rattle.reference_machine.specs.Boots.{BootTask, file_tasks, file_delivery, pair_tasks}
+use Rattle.reference_machine.specs.Boots.{memory_delivery}
 use Rattle.reference_machine.specs.Boots.BootTask.{Does, Removes}
 use Rattle.reference_machine.specs.Deliveries.{BootUnit, pieces, units}
 use Rattle.reference_machine.specs.Formats.{Formats}
@@ -13,7 +16,8 @@ use Rattle.reference_machine.specs.Laws.{Distinct}
 use Rattle.reference_machine.specs.Machine.{Machine, File}
 use Rattle.reference_machine.specs.Order.{inserted, in_order}
 use Rattle.reference_machine.specs.Spent.{spent}
-use Rattle.reference_machine.proofs.Keys.{count, Ahead, Numbered, unit_keys, all_numbered, rest_numbered, do_ahead, count_apart}
+use Rattle.reference_machine.proofs.Keys.{count, Ahead, Numbered, unit_keys, all_numbered}
+use Rattle.reference_machine.proofs.Keys.{rest_numbered, do_ahead, count_apart}
 
 -- an order keeps what holds of each item, and that items are distinct
 all_inserted : {X : Type 0} (P : X → Type 0) (before : X → X → Bool) (x : X) (ys : List X) → P x

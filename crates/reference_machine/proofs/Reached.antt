@@ -1,9 +1,12 @@
 -- The laws of every machine that is reached.
-use Rattle.std.proofs.Common.{◌≡◌, ◌<◌, ◌≤◌, ◌^◌, ℕ, inl, inr, List, length, arith, refl, sym, subst}
+use Rattle.std.proofs.Common.{◌≡◌, ◌<◌, ◌≤◌, ◌^◌, ℕ, inl, inr, List, length, arith, refl, sym}
+use Rattle.std.proofs.Common.{subst}
 use Rattle.bench_model.specs.Boards.{BoardValue, IsBoard}
 use Rattle.reference_machine.specs.Boots.{boot_at}
 use Rattle.reference_machine.specs.Formats.{Formats}
-use Rattle.reference_machine.specs.Laws.{IsReached, Grows, OpenIsLast, AttemptsReachFloor, AreApart, StandInOrder, HaveDistinctKeys, SpentFilesHaveProgress, IsWithinLimits, SerialsAreGiven, KeepsLimits, TellNoFault}
+use Rattle.reference_machine.specs.Laws.{IsReached, Grows, OpenIsLast, AttemptsReachFloor, AreApart}
+use Rattle.reference_machine.specs.Laws.{StandInOrder, HaveDistinctKeys, SpentFilesHaveProgress}
+use Rattle.reference_machine.specs.Laws.{IsWithinLimits, SerialsAreGiven, KeepsLimits, TellNoFault}
 use Rattle.reference_machine.specs.Events.{Act, Run, Step, trace_of, machine_after}
 use Rattle.reference_machine.specs.TraceValues.{EntryValue}
 use Rattle.reference_machine.specs.Machine.{Machine, fresh}

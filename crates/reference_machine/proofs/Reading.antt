@@ -1,5 +1,7 @@
 -- What the definitions come to in numbers, read off them.
-use Rattle.std.proofs.Common.{◌≡◌, ℕ, zero, suc, ◌+◌, ◌<◌, ◌≤◌, ◌⊎◌, ◌↔◌, inl, inr, Bool, true, false, cond, ◌&&◌, ◌||◌, nat_le, nat_lt, IsTrue, List, [], ◌∷◌, ◌++◌, map, flat_map, find, length, refl, arith, sym, ap, subst, Some, None}
+use Rattle.std.proofs.Common.{◌≡◌, ℕ, zero, suc, ◌+◌, ◌<◌, ◌≤◌, ◌⊎◌, ◌↔◌, inl, inr, Bool, true}
+use Rattle.std.proofs.Common.{false, cond, ◌&&◌, ◌||◌, nat_le, nat_lt, IsTrue, List, [], ◌∷◌, ◌++◌}
+use Rattle.std.proofs.Common.{map, flat_map, find, length, refl, arith, sym, ap, subst, Some, None}
 use Rattle.std.specs.List.{list_all, range_with_len}
 use Rattle.std.proofs.lemmas.Bool.Decides.{nat_tests}
 use Rattle.bench_model.specs.Boards.{BoardValue}
@@ -8,8 +10,10 @@ use Rattle.reference_machine.specs.declared.unit.End.{End}
 use Rattle.reference_machine.specs.declared.unit.End.TheVariants.{Sealed, Kept, Lost}
 use Rattle.reference_machine.specs.Boots.{BootTask, boot_at, boot_of, boot_tasks, tasks_with}
 use Rattle.reference_machine.specs.Deliveries.{BootUnit}
-use Rattle.reference_machine.specs.Events.{Act, IsIn, cut_machines, outcome, is_memory_full, laid_bytes}
-use Rattle.reference_machine.specs.Events.Act.{Time, Drop, Signal, Lay, Stage, Boot, Arm, Fail, Reset, Show}
+use Rattle.reference_machine.specs.Events.{Act, IsIn, cut_machines, outcome, is_memory_full}
+use Rattle.reference_machine.specs.Events.{laid_bytes}
+use Rattle.reference_machine.specs.Events.Act.{Time, Drop, Signal, Lay, Stage, Boot, Arm, Fail}
+use Rattle.reference_machine.specs.Events.Act.{Reset, Show}
 use Rattle.reference_machine.specs.Formats.{Formats, Parts}
 use Rattle.reference_machine.specs.Laws.{IsReached, IsPastMemory}
 use Rattle.reference_machine.specs.Laws.IsReached.{ByEvent, BySteps}
@@ -143,7 +147,8 @@ module _ (f : Formats) (m : Machine) (u : BootUnit) (p : Parts) where
   pub shape_fails : refusal_with f m u None ≡ Some 4
   shape_fails = refl
 
-  pub admission_fails : is_admitted m.board.digests u.image ≡ false → refusal_with f m u (Some p) ≡ Some 5
+  pub admission_fails : is_admitted m.board.digests u.image ≡ false → refusal_with f m u (Some p)
+      ≡ Some 5
   admission_fails a = rw a refl
 
   pub capacity_fails : is_admitted m.board.digests u.image ≡ true

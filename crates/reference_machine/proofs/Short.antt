@@ -1,5 +1,8 @@
 -- A boot is short: a delivery has few units, and there are few deliveries.
-use Rattle.std.proofs.Common.{◌≡◌, ℕ, zero, suc, ◌+◌, ◌-◌, ◌*◌, ◌<◌, ◌≤◌, ◌^◌, Bool, true, false, cond, ◌||◌, List, [], ◌∷◌, ◌++◌, length, map, filter, flat_map, find, drop, refl, arith, sym, ap, ◌∙◌, subst, nat_lt, Option, Some, None, option_and_then}
+use Rattle.std.proofs.Common.{◌≡◌, ℕ, zero, suc, ◌+◌, ◌-◌, ◌*◌, ◌<◌, ◌≤◌, ◌^◌, Bool, true, false}
+use Rattle.std.proofs.Common.{cond, ◌||◌, List, [], ◌∷◌, ◌++◌, length, map, filter, flat_map, find}
+use Rattle.std.proofs.Common.{drop, refl, arith, sym, ap, ◌∙◌, subst, nat_lt, Option, Some, None}
+use Rattle.std.proofs.Common.{option_and_then}
 use Rattle.std.specs.List.{enumerate_from}
 use Rattle.std.proofs.lemmas.Bool.Decides.{nat_tests}
 use Rattle.std.proofs.lemmas.List.{length-append, length-drop, length-map}
@@ -9,10 +12,17 @@ use Rattle.cu_base.specs.declared.guid.Guid.{Guid}
 use Rattle.bench_model.specs.Devices.{DeviceValue}
 use Rattle.reference_machine.specs.declared.snapshot.StagedPair.{StagedPair}
 use Rattle.reference_machine.specs.declared.unit.End.{End}
-use Rattle.reference_machine.specs.Boots.{BootTask, BootState, Course, after, after_unit, next, after_steps, boot_start, boot_at, boot_tasks, tasks_with, staged_tasks, folder_tasks, file_tasks, file_delivery, files_in_order, pair_tasks, memory_delivery, staged_in_order, prune_tasks, course_of, settled, settled_with}
+use Rattle.reference_machine.specs.Boots.{BootTask, BootState, Course, after, after_unit, next}
+use Rattle.reference_machine.specs.Boots.{after_steps, boot_start, boot_at, boot_tasks, tasks_with}
+use Rattle.reference_machine.specs.Boots.{staged_tasks, folder_tasks, file_tasks, file_delivery}
+use Rattle.reference_machine.specs.Boots.{files_in_order, pair_tasks, memory_delivery}
+use Rattle.reference_machine.specs.Boots.{staged_in_order, prune_tasks, course_of, settled}
+use Rattle.reference_machine.specs.Boots.{settled_with}
 use Rattle.reference_machine.specs.Boots.BootTask.{Settles, Unstages, Does, Prunes, Removes, Clears}
 use Rattle.reference_machine.specs.Boots.Course.{Claim, Close}
-use Rattle.reference_machine.specs.Deliveries.{BootUnit, Delivery, Piece, units, pieces, capsule_pieces, item_pieces, is_passed_over, is_target, targets, unit_of}
+use Rattle.reference_machine.specs.Deliveries.{BootUnit, Delivery, Piece, units, pieces}
+use Rattle.reference_machine.specs.Deliveries.{capsule_pieces, item_pieces, is_passed_over}
+use Rattle.reference_machine.specs.Deliveries.{is_target, targets, unit_of}
 use Rattle.reference_machine.specs.Formats.{Capsule, Formats, Item, ItemHead}
 use Rattle.reference_machine.specs.Laws.{IsWithinLimits, KeepsLimits}
 use Rattle.reference_machine.specs.Machine.{Machine, File}

@@ -1,11 +1,16 @@
 -- In every machine that is reached the progress of each file of the folder is kept.
-use Rattle.std.proofs.Common.{◌≡◌, ℕ, zero, suc, ◌+◌, ◌≤◌, ◌⊎◌, inl, inr, Bool, true, false, cond, not, ◌&&◌, ◌||◌, ◌==◌, List, [], ◌∷◌, ◌++◌, length, map, filter, find, refl, arith, sym, ap, ◌∙◌, subst, Option, Some, None}
+use Rattle.std.proofs.Common.{◌≡◌, ℕ, zero, suc, ◌+◌, ◌≤◌, ◌⊎◌, inl, inr, Bool, true, false, cond}
+use Rattle.std.proofs.Common.{not, ◌&&◌, ◌||◌, ◌==◌, List, [], ◌∷◌, ◌++◌, length, map, filter, find}
+use Rattle.std.proofs.Common.{refl, arith, sym, ap, ◌∙◌, subst, Option, Some, None}
 use Rattle.std.specs.List.{AllByRecursion}
 use Rattle.std.proofs.lemmas.Bool.Decides.{nat_tests}
 use Rattle.reference_machine.specs.declared.snapshot.StagedPair.{StagedPair}
 use Rattle.reference_machine.specs.declared.unit.End.{End}
 use Rattle.reference_machine.specs.declared.unit.UnitKey.{UnitKey}
-use Rattle.reference_machine.specs.Boots.{BootTask, BootState, Course, after, after_unit, after_steps, boot_start, boot_at, boot_tasks, tasks_with, staged_tasks, folder_tasks, is_file, progress_with, course_of, element_of, settled, settled_with, closed_with}
+use Rattle.reference_machine.specs.Boots.{BootTask, BootState, Course, after, after_unit}
+use Rattle.reference_machine.specs.Boots.{after_steps, boot_start, boot_at, boot_tasks, tasks_with}
+use Rattle.reference_machine.specs.Boots.{staged_tasks, folder_tasks, is_file, progress_with}
+use Rattle.reference_machine.specs.Boots.{course_of, element_of, settled, settled_with, closed_with}
 use Rattle.reference_machine.specs.Boots.BootTask.{Settles, Unstages, Does, Prunes, Removes, Clears}
 use Rattle.reference_machine.specs.Boots.Course.{Claim, Close}
 use Rattle.reference_machine.specs.Deliveries.{BootUnit}
@@ -17,10 +22,14 @@ use Rattle.reference_machine.specs.Machine.{Machine, File}
 use Rattle.reference_machine.specs.Names.{is_same_name}
 use Rattle.reference_machine.specs.Spent.{Element, is_of, is_open, is_closed, spent}
 use Rattle.reference_machine.specs.Spent.Standing.{Open, Closed}
-use Rattle.reference_machine.proofs.Apart.{all_both, all_kept, all_imply, all_more, boot_apart, apart_keeps}
-use Rattle.reference_machine.proofs.Filing.{has, serials_of, has_all, has_filter, or_right, same, IsKept, kept_more, kept_front, kept_open, IsKnown, Known, Empties}
+use Rattle.reference_machine.proofs.Apart.{all_both, all_kept, all_imply, all_more, boot_apart}
+use Rattle.reference_machine.proofs.Apart.{apart_keeps}
+use Rattle.reference_machine.proofs.Filing.{has, serials_of, has_all, has_filter, or_right, same}
+use Rattle.reference_machine.proofs.Filing.{IsKept, kept_more, kept_front, kept_open, IsKnown}
+use Rattle.reference_machine.proofs.Filing.{Known, Empties}
 use Rattle.reference_machine.proofs.FilingWork.{has_each, known_work, empties_work}
-use Rattle.reference_machine.proofs.Going.{Going, Sound, sound_of, boot_going, steps_going, start_going}
+use Rattle.reference_machine.proofs.Going.{Going, Sound, sound_of, boot_going, steps_going}
+use Rattle.reference_machine.proofs.Going.{start_going}
 use Rattle.reference_machine.proofs.Keeping.{Keeps}
 use Rattle.reference_machine.proofs.Keyed.{settled_staged}
 use Rattle.reference_machine.proofs.Keys.{keys_of, keys_append, keys_closed}

@@ -1,7 +1,9 @@
 -- A boot of the reference machine, step by step. One function gives the next step from the machine
 -- and from what is left of the boot; a boot is its iteration, so that each step and the machine
 -- after it have a number.
-use Rattle.std.specs.Prelude.{ℕ, zero, suc, Bool, false, ◌+◌, ◌*◌, ◌==◌, not, nat_lt, List, [], ◌∷◌, ◌++◌, length, map, filter, flat_map, count_by, find, drop, Option, None, Some, option_map, unwrap_or, if◌then◌else◌}
+use Rattle.std.specs.Prelude.{ℕ, zero, suc, Bool, false, ◌+◌, ◌*◌, ◌==◌, not, nat_lt, List, [], ◌∷◌}
+use Rattle.std.specs.Prelude.{◌++◌, length, map, filter, flat_map, count_by, find, drop, Option}
+use Rattle.std.specs.Prelude.{None, Some, option_map, unwrap_or, if◌then◌else◌}
 use Rattle.std.specs.List.{list_any}
 use Rattle.cu_base.specs.declared.time.EfiTime.{EfiTime}
 use Rattle.reference_machine.specs.declared.snapshot.StagedPair.{StagedPair}

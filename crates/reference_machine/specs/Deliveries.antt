@@ -1,6 +1,8 @@
 -- Deliveries and their units. A delivery holds capsules back to back; a unit is one piece of work
 -- of a boot.
-use Rattle.std.specs.Prelude.{ℕ, Bool, ◌==◌, ◌||◌, ◌&&◌, not, nat_lt, List, [], ◌∷◌, length, map, filter, flat_map, bytes_eq, Option, None, Some, option_and_then, if◌then◌else◌}
+use Rattle.std.specs.Prelude.{ℕ, Bool, ◌==◌, ◌||◌, ◌&&◌, not, nat_lt, List, [], ◌∷◌, length, map}
+use Rattle.std.specs.Prelude.{filter, flat_map, bytes_eq, Option, None, Some, option_and_then}
+use Rattle.std.specs.Prelude.{if◌then◌else◌}
 use Rattle.std.specs.List.{enumerate_from}
 use Rattle.cu_base.specs.declared.guid.Guid.{Guid}
 use Rattle.reference_machine.specs.declared.unit.Kind.{Kind}

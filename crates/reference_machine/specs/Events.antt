@@ -1,7 +1,9 @@
 -- The events of a play: what each may tell, and which machine it leaves. One outcome is that of a
 -- platform on which nothing fails; the others are those after a fault, and those that only the
 -- outside decides.
-use Rattle.std.specs.Prelude.{ℕ, Bool, true, false, ◌+◌, ◌-◌, ◌/◌, ◌%◌, ◌^◌, ◌==◌, ◌&&◌, ◌||◌, not, nat_lt, nat_le, ◌≡◌, ◌⊎◌, List, [], ◌∷◌, ◌++◌, length, map, filter, flat_map, sum_by, Option, None, Some, Result, Ok, Err, if◌then◌else◌}
+use Rattle.std.specs.Prelude.{ℕ, Bool, true, false, ◌+◌, ◌-◌, ◌/◌, ◌%◌, ◌^◌, ◌==◌, ◌&&◌, ◌||◌, not}
+use Rattle.std.specs.Prelude.{nat_lt, nat_le, ◌≡◌, ◌⊎◌, List, [], ◌∷◌, ◌++◌, length, map, filter}
+use Rattle.std.specs.Prelude.{flat_map, sum_by, Option, None, Some, Result, Ok, Err, if◌then◌else◌}
 use Rattle.std.specs.List.{list_any}
 use Rattle.cu_base.specs.declared.time.EfiTime.{EfiTime}
 use Rattle.fmp_headers.specs.declared.capsule.CapsuleHeader.{CapsuleHeader}
@@ -9,7 +11,9 @@ use Rattle.fmp_headers.specs.declared.faults.HeaderFault.{HeaderFault}
 use Rattle.fmp_headers.specs.CapsuleHeader.{capsule_header}
 use Rattle.reference_machine.specs.declared.event.Event.{Event}
 use Rattle.reference_machine.specs.declared.event.Event.TheVariants as events
-use Rattle.reference_machine.specs.declared.limits.TheConstants.{MAX_FILES, MAX_FOLDER_BYTES, MAX_STAGED, MAX_SEGMENTS, MAX_MEMORY_BYTES}
+use Rattle.reference_machine.specs.declared.limits.TheConstants.{MAX_FILES, MAX_FOLDER_BYTES}
+use Rattle.reference_machine.specs.declared.limits.TheConstants.{MAX_STAGED, MAX_SEGMENTS}
+use Rattle.reference_machine.specs.declared.limits.TheConstants.{MAX_MEMORY_BYTES}
 use Rattle.reference_machine.specs.declared.trace.BootEnd.{BootEnd}
 use Rattle.reference_machine.specs.declared.trace.BootEnd.TheVariants as ends
 use Rattle.reference_machine.specs.declared.unit.End.{End}
@@ -23,7 +27,9 @@ use Rattle.reference_machine.specs.Results.{esrt_of, results_of, last_result}
 use Rattle.reference_machine.specs.Stops.{StopCause, IsHeldEnd, Agrees, stops}
 use Rattle.reference_machine.specs.Stops.StopCause.{Flash, Volume, Memory}
 use Rattle.reference_machine.specs.TraceValues.{AnswerValue, EntryValue, SnapshotValue}
-use Rattle.reference_machine.specs.TraceValues.AnswerValue.{Done, Serial, FlashFault, VolumeFault, Full, Wraps, Invalid, Unsupported, Resources, Booted, Shown}
+use Rattle.reference_machine.specs.TraceValues.AnswerValue.{Done, Serial, FlashFault, VolumeFault}
+use Rattle.reference_machine.specs.TraceValues.AnswerValue.{Full, Wraps, Invalid, Unsupported}
+use Rattle.reference_machine.specs.TraceValues.AnswerValue.{Resources, Booted, Shown}
 
 -- an event with the bytes of its input
 pub data Act : Type 0 where

@@ -1,9 +1,12 @@
 -- What holds of every machine that is reached from a fresh board, whatever is delivered and
 -- whatever fails.
-use Rattle.std.specs.Prelude.{◌≡◌, ◌≢◌, ◌⊎◌, ℕ, ◌+◌, ◌<◌, ◌≤◌, Bool, false, ◌==◌, List, [], ◌∷◌, ◌++◌, IsTrue, length, filter, find, Option, None, Some}
+use Rattle.std.specs.Prelude.{◌≡◌, ◌≢◌, ◌⊎◌, ℕ, ◌+◌, ◌<◌, ◌≤◌, Bool, false, ◌==◌, List, [], ◌∷◌}
+use Rattle.std.specs.Prelude.{◌++◌, IsTrue, length, filter, find, Option, None, Some}
 use Rattle.std.specs.List.{AllByRecursion, list_any}
 use Rattle.cu_base.specs.declared.time.EfiTime.{EfiTime}
-use Rattle.reference_machine.specs.declared.limits.TheConstants.{MAX_FILES, MAX_STAGED, MAX_SEGMENTS, MAX_MEMORY_BYTES, MAX_DELIVERY_CAPSULES}
+use Rattle.reference_machine.specs.declared.limits.TheConstants.{MAX_FILES, MAX_STAGED}
+use Rattle.reference_machine.specs.declared.limits.TheConstants.{MAX_SEGMENTS, MAX_MEMORY_BYTES}
+use Rattle.reference_machine.specs.declared.limits.TheConstants.{MAX_DELIVERY_CAPSULES}
 use Rattle.reference_machine.specs.declared.trace.BootEnd.{BootEnd}
 use Rattle.reference_machine.specs.declared.trace.BootEnd.TheVariants as ends
 use Rattle.reference_machine.specs.declared.unit.End.{End}
@@ -18,7 +21,9 @@ use Rattle.reference_machine.specs.Spent.{Element, is_open, is_attempt, floor_of
 use Rattle.reference_machine.specs.Spent.Standing.{Closed}
 use Rattle.reference_machine.specs.Stops.{IsHeldEnd}
 use Rattle.reference_machine.specs.TraceValues.{AnswerValue, EntryValue}
-use Rattle.reference_machine.specs.TraceValues.AnswerValue.{Done, Serial, FlashFault, VolumeFault, NoBank, Full, Wraps, Invalid, Unsupported, Resources, Booted, Shown}
+use Rattle.reference_machine.specs.TraceValues.AnswerValue.{Done, Serial, FlashFault, VolumeFault}
+use Rattle.reference_machine.specs.TraceValues.AnswerValue.{NoBank, Full, Wraps, Invalid}
+use Rattle.reference_machine.specs.TraceValues.AnswerValue.{Unsupported, Resources, Booted, Shown}
 
 -- a machine that is reached from a fresh board: by events, and by steps of a boot that something
 -- stopped, with or without faults

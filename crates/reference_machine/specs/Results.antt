@@ -1,10 +1,18 @@
 -- What the platform shows of the list of spent units: the last attempt of each device, the result
 -- variables (UEFI 2.10, 8.5.6) and the EFI System Resource Table (UEFI 2.10, 23.4).
-use Rattle.std.specs.Prelude.{ℕ, ◌+◌, ◌%◌, ◌^◌, ◌==◌, ◌&&◌, not, List, [], ◌∷◌, map, filter, filter_map, find, slice_get, Option, None, Some, option_map, option_and_then, unwrap_or, if◌then◌else◌}
+use Rattle.std.specs.Prelude.{ℕ, ◌+◌, ◌%◌, ◌^◌, ◌==◌, ◌&&◌, not, List, [], ◌∷◌, map, filter}
+use Rattle.std.specs.Prelude.{filter_map, find, slice_get, Option, None, Some, option_map}
+use Rattle.std.specs.Prelude.{option_and_then, unwrap_or, if◌then◌else◌}
 use Rattle.std.specs.List.{enumerate_from, last_or, range_with_len}
 use Rattle.cu_base.specs.declared.guid.Guid.{Guid}
 use Rattle.cu_base.specs.declared.status.EfiStatus.{EfiStatus}
-use Rattle.reference_machine.specs.declared.attempt_status.TheConstants.{LAST_ATTEMPT_STATUS_SUCCESS, LAST_ATTEMPT_STATUS_ERROR_UNSUCCESSFUL, LAST_ATTEMPT_STATUS_ERROR_INSUFFICIENT_RESOURCES, LAST_ATTEMPT_STATUS_ERROR_INCORRECT_VERSION, LAST_ATTEMPT_STATUS_ERROR_INVALID_FORMAT, LAST_ATTEMPT_STATUS_ERROR_AUTH_ERROR, LAST_ATTEMPT_STATUS_ERROR_UNSATISFIED_DEPENDENCIES}
+use Rattle.reference_machine.specs.declared.attempt_status.TheConstants.{LAST_ATTEMPT_STATUS_SUCCESS}
+use Rattle.reference_machine.specs.declared.attempt_status.TheConstants.{LAST_ATTEMPT_STATUS_ERROR_UNSUCCESSFUL}
+use Rattle.reference_machine.specs.declared.attempt_status.TheConstants.{LAST_ATTEMPT_STATUS_ERROR_INSUFFICIENT_RESOURCES}
+use Rattle.reference_machine.specs.declared.attempt_status.TheConstants.{LAST_ATTEMPT_STATUS_ERROR_INCORRECT_VERSION}
+use Rattle.reference_machine.specs.declared.attempt_status.TheConstants.{LAST_ATTEMPT_STATUS_ERROR_INVALID_FORMAT}
+use Rattle.reference_machine.specs.declared.attempt_status.TheConstants.{LAST_ATTEMPT_STATUS_ERROR_AUTH_ERROR}
+use Rattle.reference_machine.specs.declared.attempt_status.TheConstants.{LAST_ATTEMPT_STATUS_ERROR_UNSATISFIED_DEPENDENCIES}
 use Rattle.reference_machine.specs.declared.snapshot.CapsuleResult.{CapsuleResult}
 use Rattle.reference_machine.specs.declared.snapshot.EsrtEntry.{EsrtEntry}
 use Rattle.reference_machine.specs.declared.snapshot.FmpResult.{FmpResult}
@@ -16,7 +24,8 @@ use Rattle.reference_machine.specs.declared.unit.UnitLine.{UnitLine}
 use Rattle.bench_model.specs.Boards.{BoardValue}
 use Rattle.bench_model.specs.Devices.{DeviceValue}
 use Rattle.reference_machine.specs.Deliveries.{is_same_guid}
-use Rattle.reference_machine.specs.Spent.{Standing, Element, is_closed, end_of, is_on, greatest, least, floor_of, version_of}
+use Rattle.reference_machine.specs.Spent.{Standing, Element, is_closed, end_of, is_on, greatest}
+use Rattle.reference_machine.specs.Spent.{least, floor_of, version_of}
 use Rattle.reference_machine.specs.Spent.Standing.{Open, Closed}
 
 -- an EFI_STATUS: 0, or an error code, which has the top bit set (UEFI 2.10, appendix D)

@@ -1,6 +1,7 @@
 -- Samples of what the definitions say: a board of three devices, of which two have one type, and
 -- what stands in it.
-use Rattle.std.specs.Prelude.{ℕ, Bool, false, ◌==◌, nat_lt, List, [], ◌∷◌, map, codes, find, unwrap_or, Option, None, Some, option_map}
+use Rattle.std.specs.Prelude.{ℕ, Bool, false, ◌==◌, nat_lt, List, [], ◌∷◌, map, codes, find}
+use Rattle.std.specs.Prelude.{unwrap_or, Option, None, Some, option_map}
 use Rattle.cu_base.specs.declared.guid.Guid.{Guid}
 use Rattle.bench_model.specs.Boards.{BoardValue}
 use Rattle.bench_model.specs.Devices.{DeviceValue}
@@ -70,7 +71,15 @@ second_controller = record {
 
 -- a board of these, with result variables of the numbers 0 to 2
 abbrev pub three_devices : BoardValue
-three_devices = record { bank = 65536; store = 2; two_banks = false; result_max = 2; digests = []; devices = system ∷ first_controller ∷ second_controller ∷ [] }
+three_devices =
+    record {
+      bank = 65536;
+      store = 2;
+      two_banks = false;
+      result_max = 2;
+      digests = [];
+      devices = system ∷ first_controller ∷ second_controller ∷ [];
+    }
 
 -- the header of an item for type 2: its version, index and instance
 abbrev pub head_of : ℕ → ℕ → ℕ → ItemHead

@@ -1,6 +1,8 @@
 -- The list of spent units, which only grows, and what is read off it. A place of the list is the
 -- front of it up to there.
-use Rattle.std.specs.Prelude.{ℕ, Bool, true, false, ◌==◌, ◌&&◌, ◌||◌, not, max, min, List, [], ◌∷◌, length, map, filter, slice_get, Option, None, Some, option_map, unwrap_or, if◌then◌else◌}
+use Rattle.std.specs.Prelude.{ℕ, Bool, true, false, ◌==◌, ◌&&◌, ◌||◌, not, max, min, List, [], ◌∷◌}
+use Rattle.std.specs.Prelude.{length, map, filter, slice_get, Option, None, Some, option_map}
+use Rattle.std.specs.Prelude.{unwrap_or, if◌then◌else◌}
 use Rattle.std.specs.List.{enumerate_from, last_or}
 use Rattle.cu_base.specs.declared.guid.Guid.{Guid}
 use Rattle.cu_base.specs.declared.time.EfiTime.{EfiTime}

@@ -1,7 +1,8 @@
 -- Where a boot may be stopped, and which machines the report of a stopped boot agrees with. A boot
 -- is stopped between two steps or inside one: then the machine is that before the step or that
 -- after it.
-use Rattle.std.specs.Prelude.{ℕ, suc, Bool, true, false, ◌+◌, ◌==◌, ◌&&◌, ◌||◌, not, ◌≡◌, ◌⊎◌, IsTrue, List, [], ◌∷◌, map, Option, None, Some}
+use Rattle.std.specs.Prelude.{ℕ, suc, Bool, true, false, ◌+◌, ◌==◌, ◌&&◌, ◌||◌, not, ◌≡◌, ◌⊎◌}
+use Rattle.std.specs.Prelude.{IsTrue, List, [], ◌∷◌, map, Option, None, Some}
 use Rattle.std.specs.List.{list_all, range_with_len}
 use Rattle.reference_machine.specs.declared.unit.End.{End}
 use Rattle.reference_machine.specs.declared.unit.End.TheVariants.{Refused, Sealed, Kept, Lost}

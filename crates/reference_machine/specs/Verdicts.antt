@@ -1,12 +1,18 @@
 -- Whether an item may be tried on a device: the checks before a SetImage in their order, of which
 -- the first that fails refuses it with its LastAttemptStatus (UEFI 2.10, 23.4). They follow the
 -- checks of EDK II's FmpDevicePkg.
-use Rattle.std.specs.Prelude.{ℕ, Bool, true, false, ◌==◌, ◌&&◌, ◌||◌, not, nat_le, List, [], ◌∷◌, length, map, slice_get, Option, None, Some, option_map, unwrap_or, if◌then◌else◌}
+use Rattle.std.specs.Prelude.{ℕ, Bool, true, false, ◌==◌, ◌&&◌, ◌||◌, not, nat_le, List, [], ◌∷◌}
+use Rattle.std.specs.Prelude.{length, map, slice_get, Option, None, Some, option_map, unwrap_or}
+use Rattle.std.specs.Prelude.{if◌then◌else◌}
 use Rattle.std.specs.List.{list_all, enumerate_from}
 use Rattle.cu_base.specs.declared.guid.Guid.{Guid}
 use Rattle.image_parts.specs.Admission.{is_admitted}
 use Rattle.bench_model.specs.Boards.{BoardValue}
-use Rattle.reference_machine.specs.declared.attempt_status.TheConstants.{LAST_ATTEMPT_STATUS_ERROR_INSUFFICIENT_RESOURCES, LAST_ATTEMPT_STATUS_ERROR_INCORRECT_VERSION, LAST_ATTEMPT_STATUS_ERROR_INVALID_FORMAT, LAST_ATTEMPT_STATUS_ERROR_AUTH_ERROR, LAST_ATTEMPT_STATUS_ERROR_UNSATISFIED_DEPENDENCIES}
+use Rattle.reference_machine.specs.declared.attempt_status.TheConstants.{LAST_ATTEMPT_STATUS_ERROR_INSUFFICIENT_RESOURCES}
+use Rattle.reference_machine.specs.declared.attempt_status.TheConstants.{LAST_ATTEMPT_STATUS_ERROR_INCORRECT_VERSION}
+use Rattle.reference_machine.specs.declared.attempt_status.TheConstants.{LAST_ATTEMPT_STATUS_ERROR_INVALID_FORMAT}
+use Rattle.reference_machine.specs.declared.attempt_status.TheConstants.{LAST_ATTEMPT_STATUS_ERROR_AUTH_ERROR}
+use Rattle.reference_machine.specs.declared.attempt_status.TheConstants.{LAST_ATTEMPT_STATUS_ERROR_UNSATISFIED_DEPENDENCIES}
 use Rattle.reference_machine.specs.Formats.{Parts, Formats}
 use Rattle.reference_machine.specs.Deliveries.{BootUnit}
 use Rattle.reference_machine.specs.Spent.{floor_of, version_of, versions_of, dependency_of}

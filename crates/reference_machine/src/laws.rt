@@ -1,13 +1,19 @@
 //! What holds of the reference machine, whatever is delivered, whatever fails, and whatever the
 //! formats say. Each law is the contract of a function that does nothing.
 
-ghost use Rattle.std.specs.Prelude.{◌≡◌, ◌<◌, ◌≤◌, ◌^◌, ◌↔◌, ℕ, List, [], ◌++◌, find, length, Some, None, true, false, if◌then◌else◌};
+ghost use Rattle.std.specs.Prelude.{◌≡◌, ◌<◌, ◌≤◌, ◌^◌, ◌↔◌, ℕ, List, [], ◌++◌, find, length, Some};
+ghost use Rattle.std.specs.Prelude.{None, true, false, if◌then◌else◌};
 ghost use Rattle.bench_model.specs.Boards.{BoardValue, IsBoard};
 ghost use Rattle.reference_machine.specs.Boots.{boot_at, boot_of};
 ghost use Rattle.reference_machine.specs.Deliveries.{BootUnit};
-ghost use Rattle.reference_machine.specs.Events.{Act, IsIn, Run, Step, cut_machines, is_memory_full, trace_of, machine_after};
+ghost use Rattle.reference_machine.specs.Events.{Act, IsIn, Run, Step, cut_machines};
+ghost use Rattle.reference_machine.specs.Events.{is_memory_full, trace_of, machine_after};
 ghost use Rattle.reference_machine.specs.Formats.{Formats, Parts};
-ghost use Rattle.reference_machine.specs.Laws.{IsReached, IsPastMemory, Grows, OpenIsLast, AttemptsReachFloor, AreApart, StandInOrder, HaveDistinctKeys, SpentFilesHaveProgress, IsWithinLimits, SerialsAreGiven, KeepsLimits, TellNoFault};
+ghost use Rattle.reference_machine.specs.Laws.{IsReached, IsPastMemory, Grows, OpenIsLast};
+ghost use Rattle.reference_machine.specs.Laws.{AttemptsReachFloor, AreApart, StandInOrder};
+ghost use Rattle.reference_machine.specs.Laws.{HaveDistinctKeys, SpentFilesHaveProgress};
+ghost use Rattle.reference_machine.specs.Laws.{IsWithinLimits, SerialsAreGiven, KeepsLimits};
+ghost use Rattle.reference_machine.specs.Laws.{TellNoFault};
 ghost use Rattle.reference_machine.specs.Machine.{Machine, fresh};
 ghost use Rattle.reference_machine.specs.Report.{ReportValue};
 ghost use Rattle.reference_machine.specs.Spent.{Element, is_open, floor_of};

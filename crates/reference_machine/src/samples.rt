@@ -1,14 +1,22 @@
 //! What the definitions say of a board of three devices, by hand from the specification. Each law
 //! is the contract of a function that does nothing.
 
-ghost use Rattle.std.specs.Prelude.{◌≡◌, ◌+◌, ◌^◌, ℕ, List, [], ◌∷◌, ◌++◌, map, codes, true, false, Option, None, Some};
+ghost use Rattle.std.specs.Prelude.{◌≡◌, ◌+◌, ◌^◌, ℕ, List, [], ◌∷◌, ◌++◌, map, codes, true, false};
+ghost use Rattle.std.specs.Prelude.{Option, None, Some};
 ghost use Rattle.reference_machine.specs.Deliveries.{targets};
 ghost use Rattle.reference_machine.specs.Events.{flags_refusal};
-ghost use Rattle.reference_machine.specs.Results.{attempt_status, efi_number_of, efi_status, esrt_of, last_result, results_of, untried_number};
-ghost use Rattle.reference_machine.specs.Samples.{three_devices, sample_heads, sample_list, passed_over, without_target, sample_esrt, units_told, key_of, result_told, healed, keeps_it, own_section_holds, kinds_after_reset, shown_files, shown_staged, ordered_pairs};
+ghost use Rattle.reference_machine.specs.Results.{attempt_status, efi_number_of, efi_status};
+ghost use Rattle.reference_machine.specs.Results.{esrt_of, last_result, results_of, untried_number};
+ghost use Rattle.reference_machine.specs.Samples.{three_devices, sample_heads, sample_list};
+ghost use Rattle.reference_machine.specs.Samples.{passed_over, without_target, sample_esrt};
+ghost use Rattle.reference_machine.specs.Samples.{units_told, key_of, result_told, healed};
+ghost use Rattle.reference_machine.specs.Samples.{keeps_it, own_section_holds, kinds_after_reset};
+ghost use Rattle.reference_machine.specs.Samples.{shown_files, shown_staged, ordered_pairs};
 ghost use Rattle.reference_machine.specs.TraceValues.AnswerValue.{Invalid, Unsupported};
-ghost use Rattle.reference_machine.specs.declared.unit.End.TheVariants.{Refused, Sealed, Kept, Lost};
-ghost use Rattle.reference_machine.specs.declared.unit.Kind.TheVariants.{Try, Heal, Skip, NoTarget, Bad};
+ghost use Rattle.reference_machine.specs.declared.unit.End.TheVariants.{Refused, Sealed, Kept};
+ghost use Rattle.reference_machine.specs.declared.unit.End.TheVariants.{Lost};
+ghost use Rattle.reference_machine.specs.declared.unit.Kind.TheVariants.{Try, Heal, Skip, NoTarget};
+ghost use Rattle.reference_machine.specs.declared.unit.Kind.TheVariants.{Bad};
 
 /// Which devices are targets of an item, and which units a delivery has.
 pub fn sample_deliveries()

@@ -1,7 +1,9 @@
 -- A boot that nothing stops comes to the same as its work done piece by piece.
-use Rattle.std.proofs.Common.{◌≡◌, ℕ, zero, suc, ◌+◌, ◌*◌, ◌≤◌, List, [], ◌∷◌, ◌++◌, length, refl, arith, ap, ◌∙◌}
+use Rattle.std.proofs.Common.{◌≡◌, ℕ, zero, suc, ◌+◌, ◌*◌, ◌≤◌, List, [], ◌∷◌, ◌++◌, length, refl}
+use Rattle.std.proofs.Common.{arith, ap, ◌∙◌}
 use Rattle.reference_machine.specs.declared.unit.End.{End}
-use Rattle.reference_machine.specs.Boots.{BootTask, BootState, Course, after_unit, next, after_steps, boot_start, boot_of, boot_tasks, course_of}
+use Rattle.reference_machine.specs.Boots.{BootTask, BootState, Course, after_unit, next}
+use Rattle.reference_machine.specs.Boots.{after_steps, boot_start, boot_of, boot_tasks, course_of}
 use Rattle.reference_machine.specs.Boots.BootTask.{Settles, Unstages, Does, Prunes, Removes, Clears}
 use Rattle.reference_machine.specs.Boots.Course.{Claim, Close}
 use Rattle.reference_machine.specs.Deliveries.{BootUnit}

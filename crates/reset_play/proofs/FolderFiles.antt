@@ -1,5 +1,7 @@
 -- A platform of which files are taken out, or put in, is one still.
-use Rattle.std.proofs.Common.{◌≡◌, ℕ, suc, ◌+◌, ◌≤◌, ◌<◌, ◌&&◌, ◌||◌, Bool, true, false, cond, not, IsTrue, List, [], ◌∷◌, ◌++◌, filter, length, nat_le, refl, arith, ap, ◌∙◌, Option}
+use Rattle.std.proofs.Common.{◌≡◌, ℕ, suc, ◌+◌, ◌≤◌, ◌<◌, ◌&&◌, ◌||◌, Bool, true, false, cond, not}
+use Rattle.std.proofs.Common.{IsTrue, List, [], ◌∷◌, ◌++◌, filter, length, nat_le, refl, arith, ap}
+use Rattle.std.proofs.Common.{◌∙◌, Option}
 use Rattle.std.proofs.lemmas.Bool.Decides.{nat_tests}
 use Rattle.std.specs.List.{list_any, list_all}
 use Rattle.bench_model.specs.Boards.{BoardValue}

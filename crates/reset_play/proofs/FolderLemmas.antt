@@ -1,5 +1,7 @@
 -- The files of the update folder in order.
-use Rattle.std.proofs.Common.{◌≡◌, ◌∙◌, sym, ℕ, suc, ◌+◌, ◌≤◌, ◌<◌, not, take, drop, get_or, drop-cons, Bool, true, false, cond, List, [], ◌∷◌, insert, length, refl, ap, arith, None}
+use Rattle.std.proofs.Common.{◌≡◌, ◌∙◌, sym, ℕ, suc, ◌+◌, ◌≤◌, ◌<◌, not, take, drop, get_or}
+use Rattle.std.proofs.Common.{drop-cons, Bool, true, false, cond, List, [], ◌∷◌, insert, length}
+use Rattle.std.proofs.Common.{refl, ap, arith, None}
 use native.Mathlib.Numerals.{unary_clauses}
 use Rattle.std.proofs.lemmas.List.Sums.{prefix_len-le-length}
 use Rattle.std.specs.List.{position_or_len, position}

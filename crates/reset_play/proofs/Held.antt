@@ -1,5 +1,7 @@
 -- The list of a platform: closed elements, and perhaps one that is open behind them.
-use Rattle.std.proofs.Common.{◌≡◌, ℕ, ◌+◌, ◌&&◌, Bool, true, false, cond, not, IsTrue, List, [], ◌∷◌, ◌++◌, map, filter, find, length, count_by, refl, sym, ap, ◌∙◌, subst, Option, Some, None, IsSome, is_some, append-nil}
+use Rattle.std.proofs.Common.{◌≡◌, ℕ, ◌+◌, ◌&&◌, Bool, true, false, cond, not, IsTrue, List, []}
+use Rattle.std.proofs.Common.{◌∷◌, ◌++◌, map, filter, find, length, count_by, refl, sym, ap, ◌∙◌}
+use Rattle.std.proofs.Common.{subst, Option, Some, None, IsSome, is_some, append-nil}
 use Rattle.std.proofs.lemmas.List.Sums.{length-filter}
 use Rattle.std.specs.List.{list_all}
 use Rattle.bench_model.specs.Boards.{BoardValue}
@@ -9,7 +11,8 @@ use Rattle.cu_base.specs.declared.time.EfiTime.{EfiTime}
 use Rattle.reference_machine.specs.declared.unit.End.{End}
 use Rattle.reference_machine.specs.declared.unit.End.TheVariants.{Sealed}
 use Rattle.reference_machine.specs.declared.unit.Kind.{Kind}
-use Rattle.reference_machine.specs.Boots.{BootState, closed_with, progress_with, next_line, settled_with, with_lines}
+use Rattle.reference_machine.specs.Boots.{BootState, closed_with, progress_with, next_line}
+use Rattle.reference_machine.specs.Boots.{settled_with, with_lines}
 use Rattle.reference_machine.specs.Boots.BootTask.{Settles}
 use Rattle.reference_machine.specs.Report.{ReportValue}
 use Rattle.reference_machine.specs.Results.{line_of}
@@ -156,11 +159,17 @@ pub built_same : (board : BoardValue) (files : List File) (last : ℕ) (asked : 
     (opened : Option ℕ) (steps : ℕ) (lines lines' : List UnitLine) (unstaged removed : List ℕ)
     (pending : Option ℕ)
     → list ≡ list' → in_progress ≡ in_progress' → lines ≡ lines'
-    → built board files last asked list in_progress batches opened steps lines unstaged removed pending ≡ built board files last asked list' in_progress' batches opened steps lines' unstaged removed pending
-built_same board files last asked list list' in_progress in_progress' batches opened steps lines lines' unstaged removed pending e k l =
-    ap (λ x. built board files last asked x in_progress batches opened steps lines unstaged removed pending) e
-    ∙ (ap (λ x. built board files last asked list' x batches opened steps lines unstaged removed pending) k
-    ∙ ap (λ x. built board files last asked list' in_progress' batches opened steps x unstaged removed pending) l)
+    → built board files last asked list in_progress batches opened steps lines unstaged removed
+    pending ≡ built board files last asked list' in_progress' batches opened steps lines'
+    unstaged removed pending
+built_same board files last asked list list' in_progress in_progress' batches opened steps lines
+    lines' unstaged removed pending e k l =
+    ap (λ x. built board files last asked x in_progress batches opened steps lines unstaged removed
+    pending) e
+    ∙ (ap (λ x. built board files last asked list' x batches opened steps lines unstaged removed
+    pending) k
+    ∙ ap (λ x. built board files last asked list' in_progress' batches opened steps x unstaged
+    removed pending) l)
 
 -- the open element of a platform, settled
 pub settled_whole : (board : BoardValue) (files : List File) (last : ℕ) (asked : Bool)
@@ -176,7 +185,8 @@ pub settled_whole : (board : BoardValue) (files : List File) (last : ℕ) (asked
     (built board files last asked
     (done ++ e ∷ []) in_progress batches opened steps lines unstaged removed pending)
     (Settles kind Sealed)
-settled_whole board files last asked done e in_progress batches opened steps lines unstaged removed pending kind all h =
+settled_whole board files last asked done e in_progress batches opened steps lines unstaged removed
+    pending kind all h =
     let found : find is_open (done ++ e ∷ []) ≡ Some e = found_held done e all h in
     let open_ones : filter is_open (done ++ e ∷ []) ≡ e ∷ [] = opened_held done e all h in
     let list : map (closed_with Sealed first_moment) (done ++ e ∷ [])

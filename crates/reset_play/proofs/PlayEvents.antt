@@ -1,5 +1,6 @@
 -- A play goes on by one event.
-use Rattle.std.proofs.Common.{◌≡◌, ℕ, zero, suc, ◌+◌, ◌<◌, ◌≤◌, List, [], ◌∷◌, ◌++◌, take, drop, get_or, length, refl, sym, ap, arith, ◌∙◌, drop-cons, add-one}
+use Rattle.std.proofs.Common.{◌≡◌, ℕ, zero, suc, ◌+◌, ◌<◌, ◌≤◌, List, [], ◌∷◌, ◌++◌, take, drop}
+use Rattle.std.proofs.Common.{get_or, length, refl, sym, ap, arith, ◌∙◌, drop-cons, add-one}
 use Rattle.reference_machine.specs.declared.event.Event.{Event}
 use Rattle.cu_io.specs.Named.{Named}
 use Rattle.reference_machine.specs.Events.{act_of, outcome, trace_of, machine_after}

@@ -1,5 +1,7 @@
 -- The parts of a boot on lists.
-use Rattle.std.proofs.Common.{◌≡◌, ℕ, ◌+◌, ◌<◌, List, [], ◌∷◌, ◌++◌, find, drop, get_or, length, refl, sym, ap, arith, nat_lt, flat_map, ◌∙◌, Option, Some, None, Bool, drop-cons, add-one, option_map, unwrap_or, IsTrue, true, false, cond}
+use Rattle.std.proofs.Common.{◌≡◌, ℕ, ◌+◌, ◌<◌, List, [], ◌∷◌, ◌++◌, find, drop, get_or, length}
+use Rattle.std.proofs.Common.{refl, sym, ap, arith, nat_lt, flat_map, ◌∙◌, Option, Some, None, Bool}
+use Rattle.std.proofs.Common.{drop-cons, add-one, option_map, unwrap_or, IsTrue, true, false, cond}
 use Rattle.std.specs.List.{list_all}
 use Rattle.cu_base.specs.Fields.{number_at}
 use Rattle.reference_machine.specs.declared.snapshot.StagedPair.{StagedPair}
@@ -7,7 +9,11 @@ use Rattle.reference_machine.specs.declared.unit.End.{End}
 use Rattle.reference_machine.specs.declared.unit.End.TheVariants.{Refused, Sealed}
 use Rattle.reference_machine.specs.declared.unit.Kind.TheVariants.{Try, Heal}
 use Rattle.reference_machine.specs.declared.unit.UnitKey.{UnitKey}
-use Rattle.reference_machine.specs.Boots.{BootTask, BootState, after_unit, next, boot_of, boot_start, tasks_with, staged_tasks, pair_tasks, folder_tasks, file_tasks, files_in_order, prune_tasks, settled, settled_with, element_of, course_of_try, with_claim, with_element, with_lines, one_step, next_line}
+use Rattle.reference_machine.specs.Boots.{BootTask, BootState, after_unit, next, boot_of}
+use Rattle.reference_machine.specs.Boots.{boot_start, tasks_with, staged_tasks, pair_tasks}
+use Rattle.reference_machine.specs.Boots.{folder_tasks, file_tasks, files_in_order, prune_tasks}
+use Rattle.reference_machine.specs.Boots.{settled, settled_with, element_of, course_of_try}
+use Rattle.reference_machine.specs.Boots.{with_claim, with_element, with_lines, one_step, next_line}
 use Rattle.reference_machine.specs.Boots.BootTask.{Settles, Does, Clears}
 use Rattle.reference_machine.specs.Deliveries.{fmp_guid}
 use Rattle.reference_machine.specs.Formats.{Item, Parts}
@@ -20,7 +26,8 @@ use Rattle.reference_machine.specs.Spent.{Element, is_open}
 use Rattle.reference_machine.specs.Spent.Standing.{Open, Closed}
 use Rattle.reset_play.specs.Thin.{thin, thin_item, is_refused, plain_parts}
 use Rattle.reference_machine.specs.Verdicts.{refusal}
-use Rattle.reset_play.specs.Whole.{task_done, tasks_done, file_key, file_unit, heal_tasks, marked_tasks, all_marked_tasks, marks_of}
+use Rattle.reset_play.specs.Whole.{task_done, tasks_done, file_key, file_unit, heal_tasks}
+use Rattle.reset_play.specs.Whole.{marked_tasks, all_marked_tasks, marks_of}
 use Rattle.reset_play.proofs.OneUnit.{ordered_all, works_marked}
 use Rattle.reset_play.proofs.Finishing.{progress, boot_finish, finish_append}
 

@@ -1,9 +1,12 @@
 -- The texts of the sample plays, computed.
 use Rattle.std.proofs.Common.{◌≡◌, refl}
-use Rattle.sha2.specs.Sha256.{sha256, digest_bytes, hash_after, compress, rounds, schedule, first_words}
+use Rattle.sha2.specs.Sha256.{sha256, digest_bytes, hash_after, compress, rounds, schedule}
+use Rattle.sha2.specs.Sha256.{first_words}
 use Rattle.std.specs.Fmt.{digits}
 use Rattle.uuid.specs.Text.{by_index}
-use Rattle.reset_play.specs.Samples.{sample_text, text_of, redelivery, lower_version, refusals, wrapping, redelivery_lines, lower_version_lines, refusals_lines, wrapping_lines}
+use Rattle.reset_play.specs.Samples.{sample_text, text_of, redelivery, lower_version, refusals}
+use Rattle.reset_play.specs.Samples.{wrapping, redelivery_lines, lower_version_lines}
+use Rattle.reset_play.specs.Samples.{refusals_lines, wrapping_lines}
 
 pub redelivery_text : sample_text 15 redelivery ≡ text_of redelivery_lines
 unfolding sha256 digest_bytes hash_after compress rounds schedule first_words digits by_index

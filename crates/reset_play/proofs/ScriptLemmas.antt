@@ -1,5 +1,8 @@
 -- Parts, numbers and lines of a script.
-use Rattle.std.proofs.Common.{◌≡◌, ℕ, suc, ◌+◌, ◌-◌, ◌*◌, ◌^◌, ◌<◌, ◌≤◌, min, true, not, ◌==◌, List, [], ◌∷◌, ◌++◌, length, get_or, take, drop, add-one, length-drop, append_assoc, Some, Ok, Err, nat_lt, ⊎_elim, refl, sym, ap, ◌∙◌, subst, lit<, arith}
+use Rattle.std.proofs.Common.{◌≡◌, ℕ, suc, ◌+◌, ◌-◌, ◌*◌, ◌^◌, ◌<◌, ◌≤◌, min, true, not, ◌==◌, List}
+use Rattle.std.proofs.Common.{[], ◌∷◌, ◌++◌, length, get_or, take, drop, add-one, length-drop}
+use Rattle.std.proofs.Common.{append_assoc, Some, Ok, Err, nat_lt, ⊎_elim, refl, sym, ap, ◌∙◌}
+use Rattle.std.proofs.Common.{subst, lit<, arith}
 use Rattle.std.proofs.Math.Nat.{pow-le-pow_right, pow-suc}
 use Rattle.std.proofs.Math.Seq.{drop-cons}
 use Rattle.std.proofs.lemmas.Bool.{not-true, cases_lt, lt-ltb}
@@ -10,7 +13,8 @@ use Rattle.std.specs.List.{prefix_len}
 use Rattle.reference_machine.specs.declared.event.Event.{Event}
 use Rattle.reset_play.specs.declared.script.limits.TheConstants.{MAX_EVENTS}
 use Rattle.reset_play.specs.ScriptText.{ScriptSaid, behind, line_said, lines_said}
-use Rattle.reset_play.specs.ScriptWords.{parts, parts_behind, decimal_behind, hex_behind, hex_value, hex_pairs}
+use Rattle.reset_play.specs.ScriptWords.{parts, parts_behind, decimal_behind, hex_behind, hex_value}
+use Rattle.reset_play.specs.ScriptWords.{hex_pairs}
 
 -- the parts of a text that has a mark, and of one that has none
 split_at : (mark : ℕ) (text : List ℕ) → prefix_len (λ b. not (b == mark)) text < length text

@@ -1,5 +1,7 @@
 -- How the names of a script are gathered.
-use Rattle.std.proofs.Common.{◌≡◌, ℕ, suc, ◌+◌, ◌<◌, ◌≤◌, Bool, true, false, not, ◌&&◌, ◌||◌, cond, List, [], ◌∷◌, ◌++◌, get_or, drop, length, Option, Some, None, refl, sym, ap, ◌∙◌, subst, append_assoc, add-one}
+use Rattle.std.proofs.Common.{◌≡◌, ℕ, suc, ◌+◌, ◌<◌, ◌≤◌, Bool, true, false, not, ◌&&◌, ◌||◌, cond}
+use Rattle.std.proofs.Common.{List, [], ◌∷◌, ◌++◌, get_or, drop, length, Option, Some, None, refl}
+use Rattle.std.proofs.Common.{sym, ap, ◌∙◌, subst, append_assoc, add-one}
 use Rattle.std.proofs.Math.Bool.{and-true}
 use Rattle.std.proofs.Math.Seq.{drop-cons}
 use Rattle.std.proofs.lemmas.List.{drop_all, append-nil}
@@ -9,7 +11,8 @@ use Rattle.std.specs.List.{filter, filter_map, cons_option}
 use Rattle.std.specs.Str.{bytes_eq}
 use Rattle.reference_machine.specs.declared.event.Event.{Event}
 use Rattle.reference_machine.specs.Laws.{Distinct}
-use Rattle.reset_play.specs.ScriptInputs.{mention, once, has_name, with_name, with_mention, inputs_of}
+use Rattle.reset_play.specs.ScriptInputs.{mention, once, has_name, with_name, with_mention}
+use Rattle.reset_play.specs.ScriptInputs.{inputs_of}
 use Rattle.reference_machine.proofs.Apart.{all_imply, kept_pass, distinct_kept, no_longer}
 
 -- names beside other names, and what events name beside them

@@ -1,7 +1,13 @@
 -- A script that is written is read again.
-use Rattle.std.proofs.Common.{◌≡◌, ℕ, zero, suc, ◌+◌, ◌-◌, ◌*◌, ◌/◌, ◌%◌, ◌^◌, ◌<◌, ◌≤◌, Bool, true, false, not, ◌||◌, ◌==◌, codes, decimal, IsTrue, List, [], ◌∷◌, ◌++◌, length, slice_index, All, Some, Result, Ok, Err, nat_le, nat_lt, length-append, append_assoc, refl, sym, ap, ◌∙◌, ⊎_elim, ok_or, option_map, lit<, arith}
+use Rattle.std.proofs.Common.{◌≡◌, ℕ, zero, suc, ◌+◌, ◌-◌, ◌*◌, ◌/◌, ◌%◌, ◌^◌, ◌<◌, ◌≤◌, Bool, true}
+use Rattle.std.proofs.Common.{false, not, ◌||◌, ◌==◌, codes, decimal, IsTrue, List, [], ◌∷◌, ◌++◌}
+use Rattle.std.proofs.Common.{length, slice_index, All, Some, Result, Ok, Err, nat_le, nat_lt}
+use Rattle.std.proofs.Common.{length-append, append_assoc, refl, sym, ap, ◌∙◌, ⊎_elim, ok_or}
+use Rattle.std.proofs.Common.{option_map, lit<, arith}
 use Rattle.std.proofs.Math.Nat.{pow-suc, div-lt_iff_lt-mul}
-use Rattle.std.proofs.lemmas.Bool.{true≢false, and_parts, and_from, cases_Bool, cases_lt, eq-eqb, ne_eqb, not_from_false, or_from, or_parts, or_left, or_right, le-leb, leb-true, lt-ltb}
+use Rattle.std.proofs.lemmas.Bool.{true≢false, and_parts, and_from, cases_Bool, cases_lt, eq-eqb}
+use Rattle.std.proofs.lemmas.Bool.{ne_eqb, not_from_false, or_from, or_parts, or_left, or_right}
+use Rattle.std.proofs.lemmas.Bool.{le-leb, leb-true, lt-ltb}
 use Rattle.std.proofs.lemmas.Bool.Decides.{nat_tests}
 use Rattle.std.proofs.lemmas.Fmt.{decimal_by_steps}
 use Rattle.std.proofs.lemmas.List.Elements.{All-from_recursion}
@@ -18,14 +24,22 @@ use Rattle.cu_base.specs.Times.{days_in, is_in_calendar, moment, time_text}
 use Rattle.cu_base.specs.declared.faults.BaseFault.{BaseFault}
 use Rattle.cu_base.specs.declared.time.EfiTime.{EfiTime}
 use Rattle.reference_machine.specs.declared.event.Event.{Event}
-use Rattle.reference_machine.specs.declared.event.Event.TheVariants.{Time, Drop, Signal, Lay, Poke, Stage, Boot, Arm, Fail, Reset, Show}
+use Rattle.reference_machine.specs.declared.event.Event.TheVariants.{Time, Drop, Signal, Lay, Poke}
+use Rattle.reference_machine.specs.declared.event.Event.TheVariants.{Stage, Boot, Arm, Fail, Reset}
+use Rattle.reference_machine.specs.declared.event.Event.TheVariants.{Show}
 use Rattle.reset_play.specs.declared.script.faults.ScriptKind.{ScriptKind}
 use Rattle.reset_play.specs.declared.script.faults.ScriptKind.TheVariants.{BadOperand, BadText}
-use Rattle.reset_play.specs.declared.script.limits.TheConstants.{MAX_COUNT, MAX_EVENTS, MAX_POKE_BYTES}
+use Rattle.reset_play.specs.declared.script.limits.TheConstants.{MAX_COUNT, MAX_EVENTS}
+use Rattle.reset_play.specs.declared.script.limits.TheConstants.{MAX_POKE_BYTES}
 use Rattle.reset_play.specs.ScriptEvents.{choice}
-use Rattle.reset_play.specs.ScriptText.{ScriptSaid, event_of_words, is_plain, is_skipped, line_said, lines_said, script_said, with_line}
-use Rattle.reset_play.specs.ScriptWords.{parts, is_within, is_name_byte, is_decimal, decimal_behind, number_within, is_hex_digit, hex_value, hex_behind, hex_number, hex_pairs, address, is_hex_bytes, hex_bytes, is_file_name, is_input_name}
-use Rattle.reset_play.specs.ScriptSpelling.{hex_text, pairs_text, choice_words, event_words, event_line, script_text, Fits, FitsChoice}
+use Rattle.reset_play.specs.ScriptText.{ScriptSaid, event_of_words, is_plain, is_skipped, line_said}
+use Rattle.reset_play.specs.ScriptText.{lines_said, script_said, with_line}
+use Rattle.reset_play.specs.ScriptWords.{parts, is_within, is_name_byte, is_decimal, decimal_behind}
+use Rattle.reset_play.specs.ScriptWords.{number_within, is_hex_digit, hex_value, hex_behind}
+use Rattle.reset_play.specs.ScriptWords.{hex_number, hex_pairs, address, is_hex_bytes, hex_bytes}
+use Rattle.reset_play.specs.ScriptWords.{is_file_name, is_input_name}
+use Rattle.reset_play.specs.ScriptSpelling.{hex_text, pairs_text, choice_words, event_words}
+use Rattle.reset_play.specs.ScriptSpelling.{event_line, script_text, Fits, FitsChoice}
 
 -- a word of visible bytes
 abbrev Visible : List ℕ → Type 0

@@ -1,5 +1,7 @@
 -- What is read off the list of spent units, element by element.
-use Rattle.std.proofs.Common.{◌≡◌, ◌∙◌, ap, sym, ◌+◌, ◌<◌, suc, drop, get_or, drop-cons, ℕ, ◌==◌, ◌&&◌, ◌||◌, max, Bool, true, false, cond, not, List, [], ◌∷◌, map, filter, length, refl, arith}
+use Rattle.std.proofs.Common.{◌≡◌, ◌∙◌, ap, sym, ◌+◌, ◌<◌, suc, drop, get_or, drop-cons, ℕ, ◌==◌}
+use Rattle.std.proofs.Common.{◌&&◌, ◌||◌, max, Bool, true, false, cond, not, List, [], ◌∷◌, map}
+use Rattle.std.proofs.Common.{filter, length, refl, arith}
 use native.Mathlib.Numerals.{unary_clauses}
 use Rattle.std.specs.List.{list_any}
 use Rattle.reference_machine.specs.Spent.{Element, is_on, is_sealed, greatest, sealed_floors}

@@ -1,5 +1,7 @@
 -- Thin deliveries.
-use Rattle.std.proofs.Common.{◌≡◌, ℕ, ◌+◌, ◌*◌, ◌≤◌, ◌<◌, ◌==◌, ◌&&◌, nat_le, if◌then◌else◌, Option, Some, None, unwrap_or, Bool, true, false, List, length, take, get_or, drop-cons, refl, ap, ◌∙◌, sym, arith}
+use Rattle.std.proofs.Common.{◌≡◌, ℕ, ◌+◌, ◌*◌, ◌≤◌, ◌<◌, ◌==◌, ◌&&◌, nat_le, if◌then◌else◌, Option}
+use Rattle.std.proofs.Common.{Some, None, unwrap_or, Bool, true, false, List, length, take, get_or}
+use Rattle.std.proofs.Common.{drop-cons, refl, ap, ◌∙◌, sym, arith}
 use Rattle.cu_base.specs.declared.guid.Guid.{Guid}
 use Rattle.cu_base.specs.Fields.{field, number_at, number}
 use Rattle.std.specs.List.{list_any}
@@ -8,7 +10,8 @@ use Rattle.bench_model.specs.Devices.{DeviceValue}
 use Rattle.reference_machine.specs.Deliveries.{is_target}
 use Rattle.reference_machine.specs.Formats.{Item}
 use Rattle.reset_play.specs.Plays.{is_thin_on}
-use Rattle.reset_play.specs.Thin.{is_thin, has_thin_header, has_thin_body, has_thin_image, thin_item}
+use Rattle.reset_play.specs.Thin.{is_thin, has_thin_header, has_thin_body, has_thin_image}
+use Rattle.reset_play.specs.Thin.{thin_item}
 use Rattle.reset_play.specs.ThinValues.{thin_head, thin_said}
 
 second : (a b : Bool) → a && b ≡ true → b ≡ true

@@ -1,5 +1,6 @@
 -- A thin delivery keeps the limits of a delivery.
-use Rattle.std.proofs.Common.{◌≡◌, ℕ, ◌≤◌, Bool, true, false, cond, List, [], ◌∷◌, length, arith, ap, Some, None}
+use Rattle.std.proofs.Common.{◌≡◌, ℕ, ◌≤◌, Bool, true, false, cond, List, [], ◌∷◌, length, arith}
+use Rattle.std.proofs.Common.{ap, Some, None}
 use Rattle.reference_machine.specs.Deliveries.{fmp_guid}
 use Rattle.reference_machine.specs.Formats.{Capsule}
 use Rattle.reference_machine.specs.Laws.{KeepsLimits}

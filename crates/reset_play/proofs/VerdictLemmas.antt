@@ -1,12 +1,14 @@
 -- The verdict on an image.
-use Rattle.std.proofs.Common.{◌≡◌, ◌∙◌, ap, ℕ, Bool, true, false, ◌||◌, ◌&&◌, ◌==◌, not, List, [], ◌∷◌, length, refl, Option}
+use Rattle.std.proofs.Common.{◌≡◌, ◌∙◌, ap, ℕ, Bool, true, false, ◌||◌, ◌&&◌, ◌==◌, not, List, []}
+use Rattle.std.proofs.Common.{◌∷◌, length, refl, Option}
 use Rattle.std.specs.List.{list_all, enumerate_from}
 use Rattle.bench_model.specs.Devices.{DeviceValue}
 use Rattle.reference_machine.specs.Deliveries.{BootUnit}
 use Rattle.reference_machine.specs.Formats.{Parts}
 use Rattle.reference_machine.specs.Machine.{Machine}
 use Rattle.reference_machine.specs.Spent.{dependency_of, versions_of}
-use Rattle.reference_machine.specs.Verdicts.{refusal, refusal_with, holds, goes_on_holding, keeps_dependencies}
+use Rattle.reference_machine.specs.Verdicts.{refusal, refusal_with, holds, goes_on_holding}
+use Rattle.reference_machine.specs.Verdicts.{keeps_dependencies}
 use Rattle.reset_play.specs.declared.thin_play.delivery.PlainParts.{PlainParts}
 use Rattle.reset_play.specs.Thin.{thin, plain_parts}
 use Rattle.reset_play.specs.ThinValues.{parts_of}

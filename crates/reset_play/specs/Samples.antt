@@ -1,5 +1,6 @@
 -- Sample plays on a board with one device, and their texts.
-use Rattle.std.specs.Prelude.{false, ℕ, ◌+◌, not, List, [], ◌∷◌, ◌++◌, length, map, filter, flat_map, find, codes, bytes_eq, option_map, unwrap_or}
+use Rattle.std.specs.Prelude.{false, ℕ, ◌+◌, not, List, [], ◌∷◌, ◌++◌, length, map, filter}
+use Rattle.std.specs.Prelude.{flat_map, find, codes, bytes_eq, option_map, unwrap_or}
 use Rattle.sha2.specs.Sha256.{sha256}
 use Rattle.cu_base.specs.declared.digest.Digest.{Digest}
 use Rattle.reference_machine.specs.declared.event.Event.{Event}
@@ -74,7 +75,15 @@ sample_device = record {
 
 -- the sample board
 abbrev pub sample_board : ℕ → BoardValue
-sample_board result_max = record { bank = 65536; store = 2; two_banks = false; result_max = result_max; digests = sample_digests; devices = sample_device ∷ [] }
+sample_board result_max =
+    record {
+      bank = 65536;
+      store = 2;
+      two_banks = false;
+      result_max = result_max;
+      digests = sample_digests;
+      devices = sample_device ∷ [];
+    }
 
 -- the event that drops a sample file
 abbrev pub drop : List ℕ → List ℕ → Event

@@ -1,5 +1,6 @@
 -- The events of a script: for each first word, what the operands behind it say.
-use Rattle.std.specs.Prelude.{ℕ, Bool, true, false, codes, if◌then◌else◌, List, [], ◌∷◌, Option, Some, None, option_and_then, option_map, ok_or, Result, Err}
+use Rattle.std.specs.Prelude.{ℕ, Bool, true, false, codes, if◌then◌else◌, List, [], ◌∷◌, Option}
+use Rattle.std.specs.Prelude.{Some, None, option_and_then, option_map, ok_or, Result, Err}
 use Rattle.std.specs.Result.{result_ok}
 use Rattle.std.specs.Str.{bytes_eq}
 use Rattle.cu_base.specs.Times.{time_of_text, ◌>>=◌}
@@ -10,7 +11,8 @@ use Rattle.reference_machine.specs.declared.event.Event.TheVariants as events
 use Rattle.reset_play.specs.declared.script.limits.TheConstants.{MAX_COUNT}
 use Rattle.reset_play.specs.declared.script.faults.ScriptKind.{ScriptKind}
 use Rattle.reset_play.specs.declared.script.faults.ScriptKind.TheVariants.{BadEvent, BadOperand}
-use Rattle.reset_play.specs.ScriptWords.{is_file_name, is_input_name, number_within, address, hex_number, hex_bytes}
+use Rattle.reset_play.specs.ScriptWords.{is_file_name, is_input_name, number_within, address}
+use Rattle.reset_play.specs.ScriptWords.{hex_number, hex_bytes}
 
 -- a word, where it passes a test
 abbrev pub where_it : (List ℕ → Bool) → List ℕ → Option (List ℕ)

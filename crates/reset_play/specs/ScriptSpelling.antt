@@ -1,12 +1,15 @@
 -- How a script is written: each event in one line, as words with one space between any two.
-use Rattle.std.specs.Prelude.{◌≡◌, ℕ, false, zero, suc, ◌/◌, ◌%◌, ◌^◌, ◌<◌, ◌≤◌, if◌then◌else◌, codes, decimal, IsTrue, List, [], ◌∷◌, ◌++◌, length, flat_map}
+use Rattle.std.specs.Prelude.{◌≡◌, ℕ, false, zero, suc, ◌/◌, ◌%◌, ◌^◌, ◌<◌, ◌≤◌, if◌then◌else◌}
+use Rattle.std.specs.Prelude.{codes, decimal, IsTrue, List, [], ◌∷◌, ◌++◌, length, flat_map}
 use Rattle.std.specs.Fmt.{digit_glyph}
 use Rattle.std.specs.List.{AllByRecursion, join_with_byte}
 use Rattle.bench_model.specs.declared.choice.Choice.{Choice}
 use Rattle.bench_model.specs.declared.choice.Choice.TheVariants.{New, Old, Mix, Fill}
 use Rattle.cu_base.specs.Times.{is_in_calendar, moment, time_text}
 use Rattle.reference_machine.specs.declared.event.Event.{Event}
-use Rattle.reference_machine.specs.declared.event.Event.TheVariants.{Time, Drop, Signal, Lay, Poke, Stage, Boot, Arm, Fail, Reset, Show}
+use Rattle.reference_machine.specs.declared.event.Event.TheVariants.{Time, Drop, Signal, Lay, Poke}
+use Rattle.reference_machine.specs.declared.event.Event.TheVariants.{Stage, Boot, Arm, Fail, Reset}
+use Rattle.reference_machine.specs.declared.event.Event.TheVariants.{Show}
 use Rattle.reset_play.specs.declared.script.limits.TheConstants.{MAX_COUNT, MAX_POKE_BYTES}
 use Rattle.reset_play.specs.ScriptWords.{is_file_name, is_input_name}
 

@@ -1,11 +1,13 @@
 -- The text of a script: lines with a line feed between any two, each of them skipped, an event or
 -- refused.
-use Rattle.std.specs.Prelude.{ℕ, ◌+◌, Bool, ◌||◌, not, ◌==◌, nat_lt, if◌then◌else◌, List, [], ◌∷◌, ◌++◌, length, slice_index, Option, Some, None, Result, Ok, Err}
+use Rattle.std.specs.Prelude.{ℕ, ◌+◌, Bool, ◌||◌, not, ◌==◌, nat_lt, if◌then◌else◌, List, [], ◌∷◌}
+use Rattle.std.specs.Prelude.{◌++◌, length, slice_index, Option, Some, None, Result, Ok, Err}
 use Rattle.std.specs.List.{list_all}
 use Rattle.reference_machine.specs.declared.event.Event.{Event}
 use Rattle.reset_play.specs.declared.script.limits.TheConstants.{MAX_EVENTS}
 use Rattle.reset_play.specs.declared.script.faults.ScriptKind.{ScriptKind}
-use Rattle.reset_play.specs.declared.script.faults.ScriptKind.TheVariants.{BadText, BadEvent, TooMany}
+use Rattle.reset_play.specs.declared.script.faults.ScriptKind.TheVariants.{BadText, BadEvent}
+use Rattle.reset_play.specs.declared.script.faults.ScriptKind.TheVariants.{TooMany}
 use Rattle.reset_play.specs.ScriptWords.{is_within, parts, words}
 use Rattle.reset_play.specs.ScriptEvents.{forms, event_by}
 

@@ -1,6 +1,8 @@
 -- The text of a trace. Each event has one line, and the lines of a boot and of what is shown stand
 -- before it, with two spaces in front.
-use Rattle.std.specs.Prelude.{ℕ, true, false, ◌+◌, ◌/◌, ◌%◌, ◌^◌, ◌==◌, List, [], ◌∷◌, ◌++◌, length, flat_map, slice_get, codes, decimal, Option, None, Some, option_map, unwrap_or, if◌then◌else◌}
+use Rattle.std.specs.Prelude.{ℕ, true, false, ◌+◌, ◌/◌, ◌%◌, ◌^◌, ◌==◌, List, [], ◌∷◌, ◌++◌, length}
+use Rattle.std.specs.Prelude.{flat_map, slice_get, codes, decimal, Option, None, Some, option_map}
+use Rattle.std.specs.Prelude.{unwrap_or, if◌then◌else◌}
 use Rattle.std.specs.Fmt.{digit_glyph, radix_digits}
 use Rattle.cu_base.specs.declared.status.EfiStatus.{EfiStatus}
 use Rattle.cu_base.specs.declared.ticket.Ticket.{Ticket}
@@ -19,7 +21,9 @@ use Rattle.reference_machine.specs.declared.unit.Kind.TheVariants.{Try, Heal, Sk
 use Rattle.reference_machine.specs.declared.unit.UnitLine.{UnitLine}
 use Rattle.bench_model.specs.Boards.{BoardValue}
 use Rattle.reference_machine.specs.TraceValues.{AnswerValue, SnapshotValue}
-use Rattle.reference_machine.specs.TraceValues.AnswerValue.{Done, Serial, FlashFault, VolumeFault, NoBank, Full, Wraps, Invalid, Unsupported, Resources, Booted, Shown}
+use Rattle.reference_machine.specs.TraceValues.AnswerValue.{Done, Serial, FlashFault, VolumeFault}
+use Rattle.reference_machine.specs.TraceValues.AnswerValue.{NoBank, Full, Wraps, Invalid}
+use Rattle.reference_machine.specs.TraceValues.AnswerValue.{Unsupported, Resources, Booted, Shown}
 
 -- words, each with a space before it
 abbrev pub parts : List (List ℕ) → List ℕ

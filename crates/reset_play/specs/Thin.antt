@@ -1,7 +1,8 @@
 -- Thin deliveries: one FMP capsule with HeaderSize 28, no driver, one image of header version 3, no
 -- byte before the item and none behind its vendor code, and neither authentication data nor
 -- dependencies (UEFI 2.10, 8.5.3 and 23.3; the payload header is EDK II's FmpPayloadHeader).
-use Rattle.std.specs.Prelude.{ℕ, Bool, true, ◌+◌, ◌==◌, ◌&&◌, ◌||◌, not, nat_lt, nat_le, List, [], ◌∷◌, length, drop, bytes_eq, Option, None, Some, if◌then◌else◌}
+use Rattle.std.specs.Prelude.{ℕ, Bool, true, ◌+◌, ◌==◌, ◌&&◌, ◌||◌, not, nat_lt, nat_le, List, []}
+use Rattle.std.specs.Prelude.{◌∷◌, length, drop, bytes_eq, Option, None, Some, if◌then◌else◌}
 use Rattle.cu_base.specs.Fields.{field, number_at}
 use Rattle.reference_machine.specs.Deliveries.{fmp_guid}
 use Rattle.reference_machine.specs.Formats.{Item, Capsule, Parts, Formats}

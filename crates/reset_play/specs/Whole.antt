@@ -1,6 +1,7 @@
 -- A boot by whole pieces of work: a unit that is claimed is settled at once. A boot that nothing
 -- stops comes to the same.
-use Rattle.std.specs.Prelude.{◌≤◌, IsTrue, true, length, List, [], ◌∷◌, ◌++◌, Bool, Option, None, Some, ◌==◌, map, not, if◌then◌else◌}
+use Rattle.std.specs.Prelude.{◌≤◌, IsTrue, true, length, List, [], ◌∷◌, ◌++◌, Bool, Option, None}
+use Rattle.std.specs.Prelude.{Some, ◌==◌, map, not, if◌then◌else◌}
 use Rattle.std.specs.List.{list_all}
 use Rattle.bench_model.specs.Boards.{BoardValue}
 use Rattle.reference_machine.specs.declared.limits.TheConstants.{MAX_FILES}

@@ -3,7 +3,9 @@
 
 ghost use Rattle.std.specs.Prelude.{◌≡◌};
 ghost use Rattle.reference_machine.specs.Laws.{KeepsLimits};
-ghost use Rattle.reset_play.specs.Samples.{sample_text, text_of, redelivery, lower_version, refusals, wrapping, redelivery_lines, lower_version_lines, refusals_lines, wrapping_lines};
+ghost use Rattle.reset_play.specs.Samples.{sample_text, text_of, redelivery, lower_version};
+ghost use Rattle.reset_play.specs.Samples.{refusals, wrapping, redelivery_lines};
+ghost use Rattle.reset_play.specs.Samples.{lower_version_lines, refusals_lines, wrapping_lines};
 ghost use Rattle.reset_play.specs.Thin.{thin};
 
 /// A thin delivery keeps the limits under which a boot is short.

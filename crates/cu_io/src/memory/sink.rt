@@ -61,8 +61,7 @@ impl Sink for MemSink {
     fn write(&mut self, bytes: &[u8]) -> Result<usize, SinkFault>
         ensures bound { TakesPiece result bytes.now }
         ensures writes { Writes (sink_seen self.old) (sink_seen self.new) result bytes.now }
-        ensures cause { WriteFails SinkFault.Failed (sink_seen self.old) (sink_seen self.new) result
-            }
+        ensures cause { WriteFails SinkFault.Failed (sink_seen self.old) (sink_seen self.new) result }
 
         ensures ok { IfOk result (λ n. n ≡ length bytes.now) }
         ensures strikes { StrikesWriting self.old self.new result }

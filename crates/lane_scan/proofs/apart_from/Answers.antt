@@ -1,4 +1,5 @@
-use Rattle.std.proofs.Common.{ℕ, Bool, ◌≤◌, ◌%◌, ◌^◌, ◌==◌, not, length, take, drop, w8, ap, ◌∙◌, arith}
+use Rattle.std.proofs.Common.{ℕ, Bool, ◌≤◌, ◌%◌, ◌^◌, ◌==◌, not, length, take, drop, w8, ap, ◌∙◌}
+use Rattle.std.proofs.Common.{arith}
 use Rattle.std.specs.Simd.Lanes.{mask_l, zip2}
 use Rattle.std.proofs.lemmas.List.{length-take}
 use Rattle.std.proofs.lemmas.Simd.{mask_l-mod, tops_compared}

@@ -2,7 +2,9 @@
 
 ghost use Rattle.std.specs.Prelude.{◌≡◌, [], ◌∷◌, ok_or};
 ghost use Rattle.reset_play.specs.ScriptAnswers.{Gives};
-ghost use Rattle.reset_play.specs.ScriptEvents.{one, two, none, choice, time_event, drop_event, lay_event, poke_event, stage_event, arm_event, fail_event, reset_event};
+ghost use Rattle.reset_play.specs.ScriptEvents.{one, two, none, choice, time_event, drop_event};
+ghost use Rattle.reset_play.specs.ScriptEvents.{lay_event, poke_event, stage_event, arm_event};
+ghost use Rattle.reset_play.specs.ScriptEvents.{fail_event, reset_event};
 ghost use Rattle.reset_play.specs.ScriptText.{event_of_words};
 ghost use Rattle.reset_play.specs.ScriptWords.{words, words_behind};
 ghost use Rattle.reset_play.specs.declared.script.faults.ScriptKind.TheVariants.{BadOperand};

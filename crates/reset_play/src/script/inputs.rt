@@ -2,7 +2,8 @@
 
 ghost use Rattle.std.specs.Prelude.{◌≡◌, OnOk, OnErr, IfOk, bytes_eq, option_copied};
 ghost use Rattle.reference_machine.specs.Laws.{Distinct};
-ghost use Rattle.reset_play.specs.ScriptInputs.{mention, inputs_of, has_name, with_name, with_mention};
+ghost use Rattle.reset_play.specs.ScriptInputs.{mention, inputs_of, has_name, with_name};
+ghost use Rattle.reset_play.specs.ScriptInputs.{with_mention};
 
 use crate::{Event, Script};
 use cu_base::{Names, NoMemory, Text};

@@ -3,7 +3,9 @@
 ghost use Rattle.std.specs.Prelude.{◌≡◌, ◌≤◌, ◌<◌, ◌+◌, ◌*◌, ◌-◌, ◌^◌, true, min, IfOk, IfSome};
 ghost use Rattle.std.specs.Char.{is_ascii_digit};
 ghost use Rattle.std.specs.List.{list_all};
-ghost use Rattle.reset_play.specs.ScriptWords.{is_decimal, decimal_behind, number_within, is_hex_digit, hex_value, hex_number, is_hex_bytes, hex_pairs};
+ghost use Rattle.reset_play.specs.ScriptWords.{is_decimal, decimal_behind, number_within};
+ghost use Rattle.reset_play.specs.ScriptWords.{is_hex_digit, hex_value, hex_number, is_hex_bytes};
+ghost use Rattle.reset_play.specs.ScriptWords.{hex_pairs};
 
 use super::limits::MAX_POKE_BYTES;
 use cu_base::{Blob, NoMemory};

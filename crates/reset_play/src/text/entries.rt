@@ -1,7 +1,8 @@
 //! The lines of the events.
 
 ghost use Rattle.std.specs.Prelude.{◌≡◌, ◌++◌, map, IfOk, OnOk};
-ghost use Rattle.reset_play.specs.Texts.{answer_words, end_word, entries_text, event_line, event_word, lines_before, parts, trace_text};
+ghost use Rattle.reset_play.specs.Texts.{answer_words, end_word, entries_text, event_line};
+ghost use Rattle.reset_play.specs.Texts.{event_word, lines_before, parts, trace_text};
 ghost use Rattle.reference_machine.specs.TraceValues.{answer_value};
 
 use super::parts::{push_number, push_number_part, push_word_part};

@@ -1,7 +1,8 @@
 //! The lines of what the platform shows.
 
 ghost use Rattle.std.specs.Prelude.{◌≡◌, ◌++◌, flat_map, OnOk};
-ghost use Rattle.reset_play.specs.Texts.{esrt_text, result_text, fmp_words, last_text, file_text, parts, staged_text, picture_text};
+ghost use Rattle.reset_play.specs.Texts.{esrt_text, result_text, fmp_words, last_text, file_text};
+ghost use Rattle.reset_play.specs.Texts.{parts, staged_text, picture_text};
 ghost use Rattle.reference_machine.specs.TraceValues.{snapshot_value};
 
 use super::parts::{

@@ -1,7 +1,9 @@
 //! The lines of a boot.
 
 ghost use Rattle.std.specs.Prelude.{◌≡◌, ◌∷◌, ◌++◌, decimal, flat_map, OnOk};
-ghost use Rattle.reset_play.specs.Texts.{kind_word, source_text, capsule_text, item_text, attempt_text, device_text, unit_text, parts, key_words, end_words};
+ghost use Rattle.reset_play.specs.Texts.{kind_word, source_text, capsule_text, item_text};
+ghost use Rattle.reset_play.specs.Texts.{attempt_text, device_text, unit_text, parts, key_words};
+ghost use Rattle.reset_play.specs.Texts.{end_words};
 
 use super::parts::{
     push_number, push_number_part, push_result_part, push_status_part, push_word_part,

@@ -4,7 +4,8 @@ ghost use Rattle.std.specs.Prelude.{◌≡◌, ◌≤◌, ℕ, length, option_ma
 ghost use Rattle.std.specs.List.{list_any};
 ghost use Rattle.reference_machine.specs.Deliveries.{is_target};
 ghost use Rattle.reset_play.specs.Plays.{is_thin_on};
-ghost use Rattle.reset_play.specs.Thin.{has_thin_header, has_thin_body, has_thin_image, is_thin, is_refused, plain_parts};
+ghost use Rattle.reset_play.specs.Thin.{has_thin_header, has_thin_body, has_thin_image, is_thin};
+ghost use Rattle.reset_play.specs.Thin.{is_refused, plain_parts};
 ghost use Rattle.reset_play.specs.ThinValues.{item_of, thin_said, parts_of};
 
 use bench_model::{Board, Device};

@@ -1,6 +1,7 @@
 //! The update folder of a play on lists.
 
-ghost use Rattle.std.specs.Prelude.{◌≡◌, ◌≤◌, ◌-◌, ◌^◌, min, length, if◌then◌else◌, not, IfOk, OnOk, OnErr, position};
+ghost use Rattle.std.specs.Prelude.{◌≡◌, ◌≤◌, ◌-◌, ◌^◌, min, length, if◌then◌else◌, not, IfOk};
+ghost use Rattle.std.specs.Prelude.{OnOk, OnErr, position};
 ghost use Rattle.std.specs.List.{list_any, position_or_len};
 ghost use Rattle.reference_machine.specs.Boots.{is_file};
 ghost use Rattle.reference_machine.specs.Events.{bytes_beside};

@@ -1,7 +1,8 @@
 //! The lines of a boot.
 
 ghost use Rattle.std.specs.Prelude.{◌≡◌, IfOk, Some};
-ghost use Rattle.reference_machine.specs.Results.{status_with, efi_status, efi_number_of, line_of, result_number};
+ghost use Rattle.reference_machine.specs.Results.{status_with, efi_status, efi_number_of, line_of};
+ghost use Rattle.reference_machine.specs.Results.{result_number};
 ghost use Rattle.reference_machine.specs.declared.unit.Kind.TheVariants.{Try};
 
 use super::spent::{SpentTry, Standing};

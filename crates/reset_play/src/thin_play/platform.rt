@@ -4,7 +4,8 @@ mod boot;
 mod folder_work;
 mod steps;
 
-ghost use Rattle.std.specs.Prelude.{◌≡◌, ◌≤◌, ◌+◌, ◌++◌, ◌∷◌, [], ◌^◌, ◌<◌, ◌-◌, false, IsTrue, not, filter, IfOk, OnOk, OnErr};
+ghost use Rattle.std.specs.Prelude.{◌≡◌, ◌≤◌, ◌+◌, ◌++◌, ◌∷◌, [], ◌^◌, ◌<◌, ◌-◌, false, IsTrue};
+ghost use Rattle.std.specs.Prelude.{not, filter, IfOk, OnOk, OnErr};
 ghost use Rattle.reference_machine.specs.Events.Act.{Drop, Signal};
 ghost use Rattle.reference_machine.specs.Events.{outcome, plain, is_folder_full};
 ghost use Rattle.reference_machine.specs.Machine.{fresh};

@@ -1,10 +1,12 @@
 //! The events of a script, one after the other.
 
-ghost use Rattle.std.specs.Prelude.{◌≡◌, ◌≤◌, ◌+◌, ◌^◌, ℕ, ◌++◌, IsTrue, length, take, map, OnOk, OnErr, IfOk};
+ghost use Rattle.std.specs.Prelude.{◌≡◌, ◌≤◌, ◌+◌, ◌^◌, ℕ, ◌++◌, IsTrue, length, take, map, OnOk};
+ghost use Rattle.std.specs.Prelude.{OnErr, IfOk};
 ghost use Rattle.std.specs.List.{list_all};
 ghost use Rattle.reference_machine.specs.Events.{outcome, act_of, trace_of, machine_after};
 ghost use Rattle.reference_machine.specs.Events.Act.{Drop, Boot};
-ghost use Rattle.reset_play.specs.Plays.{has_one_device, can_play, is_thin_on, thin_trace, loaded_bytes, acts_of};
+ghost use Rattle.reset_play.specs.Plays.{has_one_device, can_play, is_thin_on, thin_trace};
+ghost use Rattle.reset_play.specs.Plays.{loaded_bytes, acts_of};
 ghost use Rattle.reset_play.specs.Thin.{thin};
 ghost use Rattle.reference_machine.specs.TraceValues.{entry_value};
 

@@ -2,7 +2,8 @@
 
 ghost use Rattle.std.specs.Prelude.{◌≡◌, ◌==◌, ◌&&◌, not, max, if◌then◌else◌, slice_get, Some};
 ghost use Rattle.std.specs.List.{list_any};
-ghost use Rattle.reference_machine.specs.Spent.{is_of, is_on, is_open, is_closed, is_sealed, floor_of, spent};
+ghost use Rattle.reference_machine.specs.Spent.{is_of, is_on, is_open, is_closed, is_sealed};
+ghost use Rattle.reference_machine.specs.Spent.{floor_of, spent};
 
 use crate::{End, UnitKey};
 use bench_model::{Board, Device};

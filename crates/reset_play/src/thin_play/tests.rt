@@ -1,4 +1,5 @@
-//! Thin deliveries, images, names and verdicts written by hand; the digests are those of `sha256sum`.
+//! Thin deliveries, images, names and verdicts written by hand; the digests are those of
+//! `sha256sum`.
 
 ghost use Rattle.std.specs.Prelude.{◌≡◌};
 
@@ -14,7 +15,8 @@ use std::process::Abort;
 
 const SYS: [u8; 16] = [0xAA, 0xAA, 0xAA, 0xAA, 0, 0, 0, 0, 0, 0, 0, 0, 0, 0, 0, 1];
 
-// A capsule of version 4 with lowest supported version 3, and an instance that the device does not have.
+// A capsule of version 4 with lowest supported version 3, and an instance that the device does not
+// have.
 const CAPSULE: [u8; 110] = [
     0xED, 0xD5, 0xCB, 0x6D, 0x2D, 0xE8, 0x44, 0x4C, 0xBD, 0xA1, 0x71, 0x94, 0x19, 0x9A, 0xD9, 0x2A,
     28, 0, 0, 0, 0, 0, 5, 0, 110, 0, 0, 0, 1, 0, 0, 0, 0, 0, 1, 0, 16, 0, 0, 0, 0, 0, 0, 0, 3, 0,

@@ -1,6 +1,7 @@
 use Rattle.std.proofs.Common.{◌≡◌, ◌+◌, length, ◌∙◌, ap, arith}
 use Rattle.std.proofs.lemmas.List.{length_push}
-use Rattle.capsule_grammar.proofs.BackLemmas.{Before, before_push, size_limit, spells_all, one_more, fault_behind, fault_below}
+use Rattle.capsule_grammar.proofs.BackLemmas.{Before, before_push, size_limit, spells_all, one_more}
+use Rattle.capsule_grammar.proofs.BackLemmas.{fault_behind, fault_below}
 use Rattle.capsule_grammar.proofs.all.decode_all.Goals as goal
 
 pub behind-requires-clause-small : goal.behind-requires-clause-small

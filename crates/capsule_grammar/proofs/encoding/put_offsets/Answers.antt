@@ -28,5 +28,6 @@ loop-k-preserved c =
         c.requires.sized,
       );
       so_far = list_grown c.args.out.now _ _ (first_place v) items c.loop-k.k c.loop-k.here
-          (omega arith) c.loop-k.invariant.here c.loop-k.invariant.so_far c.in_ok-put_u64.ensures.ok;
+          (omega arith) c.loop-k.invariant.here c.loop-k.invariant.so_far
+          c.in_ok-put_u64.ensures.ok;
     }

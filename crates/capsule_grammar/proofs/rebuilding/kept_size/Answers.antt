@@ -14,8 +14,13 @@ loop-k-preserved c =
             (omega arith) c.loop-k.invariant.within,
         ap length c.kept.ensures,
       );
-      so_far = omega
-          (arith, c.loop-k.invariant.so_far, kept_more body k (omega arith), ap length c.kept.ensures);
+      so_far = omega (
+        arith,
+        c.loop-k.invariant.so_far,
+        kept_more body k
+            (omega arith),
+        ap length c.kept.ensures,
+      );
     }
 
 pub returns-clause-value : goal.returns-clause-value

@@ -18,8 +18,13 @@ loop-k-preserved c =
         kept_before body k c.loop-k.here c.requires (omega arith) c.loop-k.invariant.within,
         ap length c.kept.ensures,
       );
-      here = omega
-          (arith, c.loop-k.invariant.here, kept_more body k (omega arith), ap length c.kept.ensures);
+      here = omega (
+        arith,
+        c.loop-k.invariant.here,
+        kept_more body k
+            (omega arith),
+        ap length c.kept.ensures,
+      );
       so_far = list_grown c.args.out.now _ _ (list_end body) (kept_items body) k c.loop-k.here
           (in_list body k (omega arith)) c.loop-k.invariant.here c.loop-k.invariant.so_far
           c.in_ok-put_u64.ensures.ok;

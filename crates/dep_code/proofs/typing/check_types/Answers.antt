@@ -2,7 +2,8 @@ use Rattle.std.proofs.Common.{ℕ, ◌-◌, length, Some, sym, ap, ◌∙◌, ar
 use Rattle.dep_code.specs.declared.op.Op.{Op}
 use Rattle.dep_code.specs.declared.fault.DepWhy.TheVariants.{NotOneBool}
 use Rattle.std.proofs.lemmas.Bool.Decides.{when_true, when_false}
-use Rattle.dep_code.proofs.Types.{IsItem, bad_types, stack_more, typed_more, not_one_truth, well_typed}
+use Rattle.dep_code.proofs.Types.{IsItem, bad_types, stack_more, typed_more, not_one_truth}
+use Rattle.dep_code.proofs.Types.{well_typed}
 use Rattle.dep_code.proofs.typing.check_types.Goals as goal
 
 pub returns-then-not-branch : goal.returns-then-not-branch

@@ -1,4 +1,5 @@
-use Rattle.fmp_headers.proofs.Headers.{capsule_header_again, capsule_header_kept, capsule_header_back}
+use Rattle.fmp_headers.proofs.Headers.{capsule_header_again, capsule_header_kept}
+use Rattle.fmp_headers.proofs.Headers.{capsule_header_back}
 use Rattle.fmp_headers.proofs.laws.capsule_header_law.Goals as goal
 
 pub returns-clause-again : goal.returns-clause-again

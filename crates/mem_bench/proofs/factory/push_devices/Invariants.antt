@@ -5,5 +5,6 @@ use Rattle.mem_bench.proofs.factory.push_devices.Given as goal
 
 abbrev pub invariant-loop-device : goal.invariant-loop-device
 invariant-loop-device l = record {
-  so_far : l.regions.items ≡ l.initial.regions.items ++ map stable_region (map (first_device l.two_banks) (take l.device-index l.devices));
+  so_far : l.regions.items ≡ l.initial.regions.items
+      ++ map stable_region (map (first_device l.two_banks) (take l.device-index l.devices));
 }

@@ -1,5 +1,6 @@
 use Rattle.std.proofs.Common.{refl}
-use Rattle.reference_machine.proofs.Reading.{admission_fails, capacity_fails, version_fails, last_decides}
+use Rattle.reference_machine.proofs.Reading.{admission_fails, capacity_fails, version_fails}
+use Rattle.reference_machine.proofs.Reading.{last_decides}
 use Rattle.reference_machine.proofs.laws.the_checks_stand_in_order.Goals as goal
 
 pub returns : goal.returns

@@ -1,13 +1,15 @@
 //! The work of a boot on the folder.
 
-ghost use Rattle.std.specs.Prelude.{◌≡◌, ◌≤◌, ◌+◌, ◌*◌, ◌^◌, [], ◌∷◌, IsTrue, not, filter, find, None, IfOk, OnOk, length, if◌then◌else◌};
+ghost use Rattle.std.specs.Prelude.{◌≡◌, ◌≤◌, ◌+◌, ◌*◌, ◌^◌, [], ◌∷◌, IsTrue, not, filter, find};
+ghost use Rattle.std.specs.Prelude.{None, IfOk, OnOk, length, if◌then◌else◌};
 ghost use Rattle.std.specs.List.{list_any, list_all};
 ghost use Rattle.reference_machine.specs.Boots.{is_file, prune_tasks, folder_tasks};
 ghost use Rattle.reference_machine.specs.Boots.BootTask.{Does};
 ghost use Rattle.reset_play.specs.Plays.{is_thin_on};
 ghost use Rattle.reference_machine.specs.Spent.{is_open};
 ghost use Rattle.reset_play.specs.Thin.{thin};
-ghost use Rattle.reset_play.specs.Whole.{between_tasks, task_done, tasks_done, file_unit, marked_tasks, all_marked_tasks, marks_of};
+ghost use Rattle.reset_play.specs.Whole.{between_tasks, task_done, tasks_done, file_unit};
+ghost use Rattle.reset_play.specs.Whole.{marked_tasks, all_marked_tasks, marks_of};
 
 use super::ListPlatform;
 use crate::thin_play::attempt::{attempt_of, item_in};

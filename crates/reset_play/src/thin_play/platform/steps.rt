@@ -1,8 +1,10 @@
 //! The steps of a boot.
 
-ghost use Rattle.std.specs.Prelude.{◌≡◌, ◌≤◌, ◌+◌, ◌∷◌, [], ◌^◌, IsTrue, not, ◌==◌, filter, find, None, OnOk, IsSome};
+ghost use Rattle.std.specs.Prelude.{◌≡◌, ◌≤◌, ◌+◌, ◌∷◌, [], ◌^◌, IsTrue, not, ◌==◌, filter, find};
+ghost use Rattle.std.specs.Prelude.{None, OnOk, IsSome};
 ghost use Rattle.std.specs.List.{list_any};
-ghost use Rattle.reference_machine.specs.Boots.{progress_with, with_element, with_claim, with_lines, one_step, next_line};
+ghost use Rattle.reference_machine.specs.Boots.{progress_with, with_element, with_claim};
+ghost use Rattle.reference_machine.specs.Boots.{with_lines, one_step, next_line};
 ghost use Rattle.reference_machine.specs.Boots.BootTask.{Settles, Removes, Clears};
 ghost use Rattle.reference_machine.specs.Report.{report_value};
 ghost use Rattle.reference_machine.specs.Spent.{is_open, is_closed};

@@ -6,10 +6,12 @@ use Rattle.mem_bench.proofs.flash.MemBenchFlash.write.Goals as goal
 
 pub returns-then-is_struck-clause-writes : goal.returns-then-is_struck-clause-writes
 returns-then-is_struck-clause-writes c =
-    in_list (λ y x. Writes c.args.at (length c.args.bytes.now) (told_region y) (told_region x)) _ _ _ _ c.requires.there
+    in_list (λ y x. Writes c.args.at (length c.args.bytes.now) (told_region y) (told_region x)) _ _
+    _ _ c.requires.there
     c.index_mut.ensures.value c.write.ensures.writes
 
 pub returns-clause-writes : goal.returns-clause-writes
 returns-clause-writes c =
-    in_list (λ y x. Writes c.args.at (length c.args.bytes.now) (told_region y) (told_region x)) _ _ _ _ c.requires.there
+    in_list (λ y x. Writes c.args.at (length c.args.bytes.now) (told_region y) (told_region x)) _ _
+    _ _ c.requires.there
     c.index_mut.ensures.value c.write.ensures.writes

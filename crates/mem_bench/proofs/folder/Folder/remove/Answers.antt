@@ -5,4 +5,5 @@ use Rattle.mem_bench.proofs.folder.Folder.remove.Goals as goal
 
 pub invariant_of-self : goal.invariant_of-self
 invariant_of-self c =
-    rw c.drop_serial.ensures (IsFolder-filter (λ (x : File). not (nat_eq x.serial c.args.serial)) _ c.self.invariant)
+    rw c.drop_serial.ensures (IsFolder-filter
+    (λ (x : File). not (nat_eq x.serial c.args.serial)) _ c.self.invariant)

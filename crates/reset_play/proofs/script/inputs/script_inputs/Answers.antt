@@ -15,11 +15,13 @@ loop-event-preserved c = record {
   items = c.loop-event.invariant.items;
   named =
       rw c.in_ok-take_event.ensures
-      (named_more c.loop-event.names.items c.as_slice-event-items.result.now c.loop-event.event-index c.event-item.result (omega arith) c.event-item.is
+      (named_more c.loop-event.names.items c.as_slice-event-items.result.now
+      c.loop-event.event-index c.event-item.result (omega arith) c.event-item.is
       ∙ c.loop-event.invariant.named);
 }
 
 pub returns-clause-distinct : goal.returns-clause-distinct
 returns-clause-distinct c =
-    named_distinct c.loop-event.names.items c.as_slice-event-items.result.now c.args.script.now.items c.loop-event.event-index
+    named_distinct c.loop-event.names.items c.as_slice-event-items.result.now
+    c.args.script.now.items c.loop-event.event-index
     c.loop-event-test.false c.loop-event.invariant.named

@@ -5,4 +5,5 @@ use Rattle.reset_play.proofs.text.parts.push_result_part.Goals as goal
 
 pub returns : goal.returns
 returns c = three c.args.out.now (codes " Capsule") (hex_pair (c.args.number / 256))
-    (hex_pair (c.args.number % 256)) _ _ _ c.in_ok-push_str.ensures.ok c.in_ok-push_hex_pair.ensures c.in_ok-push_hex_pair-2.ensures
+    (hex_pair (c.args.number % 256)) _ _ _ c.in_ok-push_str.ensures.ok c.in_ok-push_hex_pair.ensures
+    c.in_ok-push_hex_pair-2.ensures

@@ -5,4 +5,5 @@ use Rattle.reset_play.proofs.thin_play.folder.put_in_order.Goals as goal
 
 pub returns-clause-ok : goal.returns-clause-ok
 returns-clause-ok c =
-    put_at (λ a b. is_taken_before a.name b.name) c.args.file c.args.ordered.now.items _ c.place_of-place.result (search rules) (search rules)
+    put_at (λ a b. is_taken_before a.name b.name) c.args.file c.args.ordered.now.items _
+    c.place_of-place.result (search rules) (search rules)

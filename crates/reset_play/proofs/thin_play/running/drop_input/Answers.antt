@@ -1,4 +1,5 @@
-use Rattle.std.proofs.Common.{◌≡◌, ◌∙◌, ℕ, List, [], Option, Some, IsTrue, unwrap_or, sym, ap, subst}
+use Rattle.std.proofs.Common.{◌≡◌, ◌∙◌, ℕ, List, [], Option, Some, IsTrue, unwrap_or, sym, ap}
+use Rattle.std.proofs.Common.{subst}
 use Rattle.cu_io.specs.Named.{bytes_named}
 use Rattle.reset_play.specs.Plays.{is_thin_on}
 use Rattle.reset_play.proofs.thin_play.running.drop_input.Goals as goal

@@ -1,11 +1,13 @@
-use Rattle.std.proofs.Common.{arith, ◌≡◌, ◌+◌, ◌∷◌, ◌++◌, List, [], map, take, drop, length, sym, ap, ◌∙◌, append_assoc}
+use Rattle.std.proofs.Common.{arith, ◌≡◌, ◌+◌, ◌∷◌, ◌++◌, List, [], map, take, drop, length, sym}
+use Rattle.std.proofs.Common.{ap, ◌∙◌, append_assoc}
 use Rattle.std.proofs.lemmas.List.{map_push}
 use Rattle.reference_machine.specs.declared.event.Event.{Event}
 use Rattle.reference_machine.specs.Events.{trace_of}
 use Rattle.reset_play.specs.Plays.{acts_of}
 use Rattle.reset_play.specs.Thin.{thin}
 use Rattle.reference_machine.specs.TraceValues.{EntryValue, entry_value}
-use Rattle.reset_play.proofs.PlayEvents.{taken_more, dropped_more, taken_whole, none_behind, length_more, told_next, machine_next}
+use Rattle.reset_play.proofs.PlayEvents.{taken_more, dropped_more, taken_whole, none_behind}
+use Rattle.reset_play.proofs.PlayEvents.{length_more, told_next, machine_next}
 use Rattle.reset_play.proofs.thin_play.running.run_events.Goals as goal
 
 pub loop-event-preserved : goal.loop-event-preserved
@@ -16,7 +18,10 @@ loop-event-preserved c =
     ∷ trace_of thin c.answer_of.new.platform
     (acts_of c.args.loaded.now.items (drop (c.loop-event.event-index + 1) c.args.events.now))
     ≡ drop c.loop-event.event-index told =
-    told_next c.args.loaded.now.items c.args.events.now c.loop-event.event-index c.event-item.result c.loop-event.platform c.answer_of.new.platform (entry_value c.in_ok-entry.entry) c.event-item.is c.loop-event-test.true c.in_ok-entry.ensures.ok
+    told_next c.args.loaded.now.items c.args.events.now c.loop-event.event-index c.event-item.result
+    c.loop-event.platform c.answer_of.new.platform
+    (entry_value c.in_ok-entry.entry) c.event-item.is c.loop-event-test.true
+    c.in_ok-entry.ensures.ok
     ∙ c.loop-event.invariant.rest in
     let pushed : length c.push.new.self.items ≡ length c.loop-event.trace.items + 1 =
     ap length c.in_ok-push.ensures.ok
@@ -33,7 +38,10 @@ loop-event-preserved c =
           (taken_more told c.loop-event.event-index (entry_value c.in_ok-entry.entry) _ rest));
       rest = dropped_more told c.loop-event.event-index (entry_value c.in_ok-entry.entry) _ rest;
       after =
-          machine_next c.args.loaded.now.items c.args.events.now c.loop-event.event-index c.event-item.result c.loop-event.platform c.answer_of.new.platform (entry_value c.in_ok-entry.entry) c.event-item.is c.loop-event-test.true c.in_ok-entry.ensures.ok
+          machine_next c.args.loaded.now.items c.args.events.now c.loop-event.event-index
+          c.event-item.result c.loop-event.platform c.answer_of.new.platform
+          (entry_value c.in_ok-entry.entry) c.event-item.is c.loop-event-test.true
+          c.in_ok-entry.ensures.ok
           ∙ c.loop-event.invariant.after;
       board = c.answer_of.ensures.frame ∙ c.loop-event.invariant.board;
       batches = omega (arith, c.in_ok-entry.ensures.counts);

@@ -9,13 +9,20 @@ returns-clause-value c =
     let rests : find is_open (c.self.inside.done.items ++ open_rest c.self.inside.claimed) ≡ None =
     subst (λ m. find is_open m.list ≡ None) (sym c.self.view_is) c.requires.rests in
     let none : c.self.inside.claimed ≡ None =
-    none_held c.self.inside.done.items c.self.inside.claimed c.self.invariant.closed_before c.self.invariant.open_last rests in
+    none_held c.self.inside.done.items c.self.inside.claimed c.self.invariant.closed_before
+    c.self.invariant.open_last rests in
     let more : (c.self.inside.done.items ++ open_rest c.self.inside.claimed) ++ c.args.attempt ∷ []
     ≡ c.self.inside.done.items ++ c.args.attempt ∷ [] =
     held_more c.self.inside.done.items c.self.inside.claimed c.args.attempt none in
     rw (← c.self.view_is)
-    (built_same c.self.inside.board.now c.self.inside.files.items c.self.inside.last_file c.self.inside.asked _ _ c.self.inside.in_progress.items c.self.inside.in_progress.items (c.self.inside.batches + 1) c.args.report.now.opened (c.args.report.now.steps + 1) c.args.report.now.lines.items c.args.report.now.lines.items c.args.report.now.unstaged.items c.args.report.now.removed.items c.args.report.now.pending (sym more) refl refl)
+    (built_same c.self.inside.board.now c.self.inside.files.items c.self.inside.last_file
+    c.self.inside.asked _ _ c.self.inside.in_progress.items c.self.inside.in_progress.items
+    (c.self.inside.batches + 1) c.args.report.now.opened
+    (c.args.report.now.steps + 1) c.args.report.now.lines.items c.args.report.now.lines.items
+    c.args.report.now.unstaged.items c.args.report.now.removed.items c.args.report.now.pending
+    (sym more) refl refl)
 
 pub returns-clause-rule : goal.returns-clause-rule
 returns-clause-rule c =
-    pends_held c.self.inside.done.items c.args.attempt c.self.invariant.closed_before c.requires.open
+    pends_held c.self.inside.done.items c.args.attempt c.self.invariant.closed_before
+    c.requires.open

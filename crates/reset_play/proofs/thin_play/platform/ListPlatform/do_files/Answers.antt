@@ -13,14 +13,16 @@ do_file-requires-clause-thin c =
     (sym c.loop-i.invariant.board)
     (subst (λ (x : File). IsTrue (is_thin_on c.args.self.now.board x.bytes))
     (sym c.index-files-i.is)
-    (all_at (λ (x : File). is_thin_on c.args.self.now.board x.bytes) c.args.files.now c.loop-i.i c.index-files-i.result c.loop-i-test.true c.requires.thin))
+    (all_at (λ (x : File). is_thin_on c.args.self.now.board x.bytes) c.args.files.now c.loop-i.i
+    c.index-files-i.result c.loop-i-test.true c.requires.thin))
 
 pub loop-i-preserved : goal.loop-i-preserved
 loop-i-preserved c = record {
   left =
       files_step c.args.files.now c.args.marks.now c.loop-i.i c.index-files-i.result _
       (between_tasks c.loop-i.self c.loop-i.report)
-      (between_tasks c.do_file.new.self c.do_file.new.report) c.index-files-i.is c.requires.long c.loop-i-test.true c.in_ok-do_file.ensures.ok
+      (between_tasks c.do_file.new.self c.do_file.new.report) c.index-files-i.is c.requires.long
+      c.loop-i-test.true c.in_ok-do_file.ensures.ok
       ∙ c.loop-i.invariant.left;
   rests = c.in_ok-do_file.ensures.rule;
   board = c.do_file.ensures.frame ∙ c.loop-i.invariant.board;

@@ -1,4 +1,5 @@
-use Rattle.std.proofs.Common.{◌≡◌, ◌+◌, ◌<◌, ◌∷◌, ◌++◌, [], List, ℕ, IsTrue, not, false, filter, length, sym, ap, subst, ◌∙◌}
+use Rattle.std.proofs.Common.{◌≡◌, ◌+◌, ◌<◌, ◌∷◌, ◌++◌, [], List, ℕ, IsTrue, not, false, filter}
+use Rattle.std.proofs.Common.{length, sym, ap, subst, ◌∙◌}
 use Rattle.std.specs.List.{list_any}
 use Rattle.reference_machine.specs.declared.limits.TheConstants.{MAX_FILES}
 use Rattle.reference_machine.specs.Events.{is_folder_full, plain}
@@ -13,9 +14,11 @@ use Rattle.reset_play.proofs.thin_play.platform.ListPlatform.drop_file.Goals as 
 
 pub invariant_of-self : goal.invariant_of-self
 invariant_of-self c =
-    subst (λ (xs : List File). IsListPlatform c.self.inside.board.now xs c.self.inside.done.items c.self.inside.claimed) (sym c.in_err-put.ensures.err)
+    subst (λ (xs : List File). IsListPlatform c.self.inside.board.now xs c.self.inside.done.items
+    c.self.inside.claimed) (sym c.in_err-put.ensures.err)
     (fewer_files c.self.inside.board.now
-    (λ x. not (is_same_name x.name c.in_ok-from_str.field-0)) c.self.inside.files.items c.self.inside.done.items c.self.inside.claimed c.self.invariant)
+    (λ x. not (is_same_name x.name c.in_ok-from_str.field-0)) c.self.inside.files.items
+    c.self.inside.done.items c.self.inside.claimed c.self.invariant)
 
 pub invariant_of-self-2 : goal.invariant_of-self-2
 invariant_of-self-2 c =
@@ -34,7 +37,8 @@ invariant_of-self-2 c =
     let on : IsTrue (is_thin_on c.self.inside.board.now c.args.bytes.now) =
     subst (λ (m : Machine). IsTrue (is_thin_on m.board c.args.bytes.now))
     (sym c.self.view_is) c.requires in
-    subst (λ (xs : List File). IsListPlatform c.self.inside.board.now xs c.self.inside.done.items c.self.inside.claimed) (sym c.in_ok-put.ensures.ok)
+    subst (λ (xs : List File). IsListPlatform c.self.inside.board.now xs c.self.inside.done.items
+    c.self.inside.claimed) (sym c.in_ok-put.ensures.ok)
     (one_file_more c.self.inside.board.now
     (λ x. is_same_name x.name c.in_ok-from_str.field-0) c.self.inside.files.items
     (record {
@@ -62,4 +66,5 @@ returns-clause-ok c =
     (plain (Serial (c.self.inside.last_file + 1))) c.self.inside.board.now c.put.new.files.items
     (put c.args.name.now) (c.self.inside.last_file + 1) c.self.inside.asked
     (c.self.inside.done.items
-    ++ open_rest c.self.inside.claimed) c.self.inside.in_progress.items c.self.inside.batches told files)
+    ++ open_rest c.self.inside.claimed) c.self.inside.in_progress.items c.self.inside.batches told
+    files)

@@ -16,11 +16,13 @@ returns-then-is_none-clause-ok c =
     let none : c.self.inside.claimed ≡ None = search rules in
     let rests : find is_open c.args.self.now.list ≡ None =
     subst (λ m. find is_open m.list ≡ None) c.self.view_is
-    (rests_held c.self.inside.done.items c.self.inside.claimed c.self.invariant.closed_before none) in
+    (rests_held c.self.inside.done.items c.self.inside.claimed c.self.invariant.closed_before none)
+    in
     sym (ap (λ o. tasks_done thin (between_tasks c.args.self.now c.args.report.now)
     (heal_tasks o)) rests)
 
 pub settle-requires-clause-pends : goal.settle-requires-clause-pends
 settle-requires-clause-pends c =
     subst (λ m. IsSome (find is_open m.list)) c.self.view_is
-    (held_pends c.self.inside.done.items c.self.inside.claimed c.self.invariant.closed_before c.self.invariant.open_last c.if-is_none.ensures)
+    (held_pends c.self.inside.done.items c.self.inside.claimed c.self.invariant.closed_before
+    c.self.invariant.open_last c.if-is_none.ensures)

@@ -1,4 +1,5 @@
-use Rattle.std.proofs.Common.{rules, arith, ◌≡◌, ◌++◌, IsTrue, List, Bool, true, None, find, length, sym, ap, subst, ◌∙◌}
+use Rattle.std.proofs.Common.{rules, arith, ◌≡◌, ◌++◌, IsTrue, List, Bool, true, None, find, length}
+use Rattle.std.proofs.Common.{sym, ap, subst, ◌∙◌}
 use Rattle.std.specs.List.{list_all}
 use Rattle.bench_model.specs.Boards.{BoardValue}
 use Rattle.reference_machine.specs.Boots.{files_in_order}
@@ -37,7 +38,8 @@ do_files-requires-clause-thin c =
     (subst (λ (xs : List File). IsTrue
     (list_all (λ (x : File). is_thin_on c.self.inside.board.now x.bytes) xs)) (sym ordered)
     (ordered_all (λ
-    (x : File). is_thin_on c.self.inside.board.now x.bytes) before c.self.inside.files.items c.self.invariant.thin))
+    (x : File). is_thin_on c.self.inside.board.now x.bytes) before c.self.inside.files.items
+    c.self.invariant.thin))
 
 pub returns-clause-ok : goal.returns-clause-ok
 returns-clause-ok c =
@@ -51,7 +53,8 @@ returns-clause-ok c =
     let all : IsTrue
     (list_all (λ (x : File). is_thin_on c.args.self.now.board x.bytes) c.args.self.now.files) =
     subst (λ (m : Machine). IsTrue
-    (list_all (λ (x : File). is_thin_on m.board x.bytes) m.files)) c.self.view_is c.self.invariant.thin in
+    (list_all (λ (x : File). is_thin_on m.board x.bytes) m.files)) c.self.view_is
+    c.self.invariant.thin in
     let ordered : c.deref-3.result.now ≡ in_order before c.self.inside.files.items =
     c.deref-3.ensures.value ∙ c.in_ok-ordered.ensures
     ∙ ap (in_order before) c.deref.ensures.value in
@@ -60,7 +63,8 @@ returns-clause-ok c =
     let rests : find is_open (c.self.inside.done.items ++ open_rest c.self.inside.claimed) ≡ None =
     subst (λ (m : Machine). find is_open m.list ≡ None) (sym c.self.view_is) c.requires.rests in
     let none : c.self.inside.claimed ≡ None =
-    none_held c.self.inside.done.items c.self.inside.claimed c.self.invariant.closed_before c.self.invariant.open_last rests in
+    none_held c.self.inside.done.items c.self.inside.claimed c.self.invariant.closed_before
+    c.self.invariant.open_last rests in
     let list : c.as_slice.result.now ≡ c.args.self.now.list =
     c.as_slice.ensures ∙ sym (held_none c.self.inside.done.items c.self.inside.claimed none)
     ∙ ap (λ (m : Machine). m.list) c.self.view_is in
@@ -74,4 +78,5 @@ returns-clause-ok c =
     (between_tasks c.prune.new.self c.prune.new.report)
     (between_tasks c.do_files.new.self c.do_files.new.report)
     (between_tasks c.clear.new.self c.clear.new.report)
-    is_signalled one all is marked c.in_ok-prune.ensures.ok c.in_ok-do_files.ensures.ok c.clear.ensures.value
+    is_signalled one all is marked c.in_ok-prune.ensures.ok c.in_ok-do_files.ensures.ok
+    c.clear.ensures.value

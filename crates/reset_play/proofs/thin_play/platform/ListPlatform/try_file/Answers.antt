@@ -30,7 +30,8 @@ returns-in_ok-close-in-Some-clause-ok c =
     let rests : find is_open (c.self.inside.done.items ++ open_rest c.self.inside.claimed) ≡ None =
     subst (λ (m : Machine). find is_open m.list ≡ None) (sym c.self.view_is) c.requires.rests in
     let none : c.self.inside.claimed ≡ None =
-    none_held c.self.inside.done.items c.self.inside.claimed c.self.invariant.closed_before c.self.invariant.open_last rests in
+    none_held c.self.inside.done.items c.self.inside.claimed c.self.invariant.closed_before
+    c.self.invariant.open_last rests in
     let list : c.args.self.now.list ≡ c.as_slice.result.now =
     ap (λ (m : Machine). m.list) (sym c.self.view_is)
     ∙ held_none c.self.inside.done.items c.self.inside.claimed none ∙ sym c.as_slice.ensures in
@@ -60,7 +61,8 @@ returns-in_ok-settle-in-None-clause-ok c =
     let rests : find is_open (c.self.inside.done.items ++ open_rest c.self.inside.claimed) ≡ None =
     subst (λ (m : Machine). find is_open m.list ≡ None) (sym c.self.view_is) c.requires.rests in
     let none : c.self.inside.claimed ≡ None =
-    none_held c.self.inside.done.items c.self.inside.claimed c.self.invariant.closed_before c.self.invariant.open_last rests in
+    none_held c.self.inside.done.items c.self.inside.claimed c.self.invariant.closed_before
+    c.self.invariant.open_last rests in
     let list : c.args.self.now.list ≡ c.as_slice.result.now =
     ap (λ (m : Machine). m.list) (sym c.self.view_is)
     ∙ held_none c.self.inside.done.items c.self.inside.claimed none ∙ sym c.as_slice.ensures in
@@ -75,4 +77,5 @@ returns-in_ok-settle-in-None-clause-ok c =
     c.in_ok-settle-in-None.ensures.ok
     ∙ ap (λ (b : BootState). task_done thin b (Settles Try Sealed)) c.claim.ensures.value
     ∙ tried_claimed c.args.self.now
-    (report_value c.args.report.now) c.args.file.now c.in_ok-attempt.attempt is c.in_ok-attempt.ensures
+    (report_value c.args.report.now) c.args.file.now c.in_ok-attempt.attempt is
+    c.in_ok-attempt.ensures
