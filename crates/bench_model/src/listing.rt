@@ -70,7 +70,7 @@ impl Listing {
 
     /// Makes room for `n` further files.
     pub fn reserve(&mut self, n: usize) -> Result<(), NoMemory>
-        ensures items { self.new.items ≡ self.old.items }
+        ensures frame { self.new.items ≡ self.old.items }
         ensures ok { OnOk result (n ≤ self.new.spare) }
         ensures spare { self.old.spare ≤ self.new.spare }
         ensures enough { n ≤ self.old.spare → IsOk result }
