@@ -314,8 +314,8 @@ fn what_is_played_later_is_told(rt: HostRuntime) -> Result<(), Fail> {
 fn filled(alloc: Global, lines: &[&str], bytes: usize) -> Result<Blob, NoMemory> {
     let mut text = text_of(alloc, lines)?;
     let piece = [b'#'; 65_536];
-    while text.len() < bytes {
-        let room = (bytes - text.len()).min(65_536);
+    for _ in 0..17 {
+        let room = bytes.saturating_sub(text.len()).min(65_536);
         text.push_slice(&piece[..room])?;
     }
     Ok(text)
