@@ -7,7 +7,7 @@ use Rattle.std.proofs.Common.{None}
 use Rattle.std.specs.List.{AllByRecursion, list_any}
 use Rattle.std.proofs.lemmas.Bool.Decides.{nat_tests}
 use Rattle.std.proofs.lemmas.List.{length-append}
-use Rattle.reference_machine.specs.declared.limits.TheConstants.{MAX_FOLDER_BYTES, MAX_FILES}
+use Rattle.bench_model.specs.declared.outside_limits.TheConstants.{MAX_FOLDER_BYTES, MAX_FILES}
 use Rattle.reference_machine.specs.declared.limits.TheConstants.{MAX_STAGED}
 use Rattle.reference_machine.specs.declared.snapshot.StagedPair.{StagedPair}
 use Rattle.reference_machine.specs.declared.unit.End.{End}

@@ -25,8 +25,9 @@ use Rattle.reference_machine.specs.Spent.{spent, Element, is_open, is_attempt, i
 use Rattle.reference_machine.specs.Spent.{floor_of}
 use Rattle.reference_machine.specs.Spent.Standing.{Open, Closed}
 use Rattle.image_parts.specs.Admission.{is_admitted}
-use Rattle.reference_machine.specs.Verdicts.{refusal, refusal_with, first_failed, capacity_of}
+use Rattle.reference_machine.specs.Verdicts.{refusal, refusal_with, check, capacity_of}
 use Rattle.reference_machine.specs.Verdicts.{keeps_dependencies}
+use Rattle.cu_base.specs.Refusals.{first_refusal}
 use Rattle.reference_machine.proofs.Lists.{Rests, Pends, above_more, none_more, find_none}
 use Rattle.reference_machine.proofs.Lists.{find_last, settled_list}
 
@@ -66,7 +67,7 @@ le_of a b h = leb→le a b (subst T (sym h) tt)
 
 -- a try that is claimed passed the check of its version, the fourth
 fourth_passed : (a b c d e : Bool) (i j k l m : ℕ)
-    → course_of_try (first_failed ((a, i) ∷ (b, j) ∷ (c, k) ∷ (d, l) ∷ (e, m) ∷ [])) ≡ Claim
+    → course_of_try (first_refusal (check a i ∷ check b j ∷ check c k ∷ check d l ∷ check e m ∷ [])) ≡ Claim
     → d ≡ true
 fourth_passed true true true true e i j k l m h = refl
 fourth_passed true true true false e i j k l m h = cc

@@ -4,7 +4,7 @@ use Rattle.std.proofs.Common.{◌≡◌, ℕ, ◌+◌, ◌≤◌, inl, inr, Bool
 use Rattle.std.proofs.Common.{List, [], ◌∷◌, ◌++◌, length, map, filter, flat_map, refl, arith, sym}
 use Rattle.std.proofs.Common.{ap, ◌∙◌, subst, append_assoc, option_and_then}
 use Rattle.std.specs.List.{AllByRecursion, list_any}
-use Rattle.reference_machine.specs.declared.limits.TheConstants.{MAX_FILES}
+use Rattle.bench_model.specs.declared.outside_limits.TheConstants.{MAX_FILES}
 use Rattle.reference_machine.specs.declared.snapshot.StagedPair.{StagedPair}
 use Rattle.reference_machine.specs.declared.unit.UnitKey.{UnitKey}
 use Rattle.reference_machine.specs.Boots.{BootTask, progress_with, is_file, file_tasks}

@@ -5,7 +5,7 @@ use Rattle.std.proofs.Common.{map, flat_map, find, length, refl, arith, sym, ap,
 use Rattle.std.specs.List.{list_all, range_with_len}
 use Rattle.std.proofs.lemmas.Bool.Decides.{nat_tests}
 use Rattle.bench_model.specs.Boards.{BoardValue}
-use Rattle.reference_machine.specs.declared.limits.TheConstants.{MAX_SEGMENTS, MAX_MEMORY_BYTES}
+use Rattle.bench_model.specs.declared.outside_limits.TheConstants.{MAX_SEGMENTS, MAX_MEMORY_BYTES}
 use Rattle.reference_machine.specs.declared.unit.End.{End}
 use Rattle.reference_machine.specs.declared.unit.End.TheVariants.{Sealed, Kept, Lost}
 use Rattle.reference_machine.specs.Boots.{BootTask, boot_at, boot_of, boot_tasks, tasks_with}
@@ -22,7 +22,8 @@ use Rattle.reference_machine.specs.Report.{ReportValue}
 use Rattle.reference_machine.specs.Spent.{Element, is_open, floor_of}
 use Rattle.reference_machine.specs.Stops.{StopCause, Agrees, IsHeldEnd, is_folder_task, stops}
 use Rattle.image_parts.specs.Admission.{is_admitted}
-use Rattle.reference_machine.specs.Verdicts.{refusal_with, capacity_of, keeps_dependencies}
+use Rattle.cu_base.specs.Refusals.{first_refusal}
+use Rattle.reference_machine.specs.Verdicts.{refusal_with, check, capacity_of, keeps_dependencies}
 
 -- no boot is stopped by the volume before its heal
 heal_first : (f : Formats) (m : Machine) (h : End) (e : Element) (n : ℕ)
@@ -142,6 +143,11 @@ memory_full m bytes = (λ h. there (or_true _ _ h), λ h. true_or _ _ (back h))
     back (inl h) = inl (is_at_most _ _ h)
     back (inr h) = inr (is_below _ _ h)
 
+last_row : (passes : Bool) (status : ℕ)
+    → first_refusal (check passes status ∷ []) ≡ cond passes None (Some status)
+last_row true status = refl
+last_row false status = refl
+
 -- the checks of a try, each where those before it pass
 module _ (f : Formats) (m : Machine) (u : BootUnit) (p : Parts) where
   pub shape_fails : refusal_with f m u None ≡ Some 4
@@ -175,4 +181,4 @@ module _ (f : Formats) (m : Machine) (u : BootUnit) (p : Parts) where
       let c : nat_le (length p.payload) (capacity_of m.board u.key.device) ≡ true =
       is_at_most _ _ h in
       let v : nat_le (floor_of m.board m.list u.key.device) p.version ≡ true = is_at_most _ _ k in
-      rw (a, c, v) refl
+      rw (a, c, v) (last_row (keeps_dependencies f m u.key.device p) 8)

@@ -11,9 +11,10 @@ use Rattle.fmp_headers.specs.declared.faults.HeaderFault.{HeaderFault}
 use Rattle.fmp_headers.specs.CapsuleHeader.{capsule_header}
 use Rattle.reference_machine.specs.declared.event.Event.{Event}
 use Rattle.reference_machine.specs.declared.event.Event.TheVariants as events
-use Rattle.reference_machine.specs.declared.limits.TheConstants.{MAX_FILES, MAX_FOLDER_BYTES}
-use Rattle.reference_machine.specs.declared.limits.TheConstants.{MAX_STAGED, MAX_SEGMENTS}
-use Rattle.reference_machine.specs.declared.limits.TheConstants.{MAX_MEMORY_BYTES}
+use Rattle.bench_model.specs.declared.outside_limits.TheConstants.{MAX_FILES, MAX_FOLDER_BYTES}
+use Rattle.reference_machine.specs.declared.limits.TheConstants.{MAX_STAGED}
+use Rattle.bench_model.specs.declared.outside_limits.TheConstants.{MAX_SEGMENTS}
+use Rattle.bench_model.specs.declared.outside_limits.TheConstants.{MAX_MEMORY_BYTES}
 use Rattle.reference_machine.specs.declared.trace.BootEnd.{BootEnd}
 use Rattle.reference_machine.specs.declared.trace.BootEnd.TheVariants as ends
 use Rattle.reference_machine.specs.declared.unit.End.{End}

@@ -4,8 +4,9 @@ use Rattle.std.specs.Prelude.{◌≡◌, ◌≢◌, ◌⊎◌, ℕ, ◌+◌, ◌
 use Rattle.std.specs.Prelude.{◌++◌, IsTrue, length, filter, find, Option, None, Some}
 use Rattle.std.specs.List.{AllByRecursion, list_any}
 use Rattle.cu_base.specs.declared.time.EfiTime.{EfiTime}
-use Rattle.reference_machine.specs.declared.limits.TheConstants.{MAX_FILES, MAX_STAGED}
-use Rattle.reference_machine.specs.declared.limits.TheConstants.{MAX_SEGMENTS, MAX_MEMORY_BYTES}
+use Rattle.reference_machine.specs.declared.limits.TheConstants.{MAX_STAGED}
+use Rattle.bench_model.specs.declared.outside_limits.TheConstants.{MAX_FILES}
+use Rattle.bench_model.specs.declared.outside_limits.TheConstants.{MAX_SEGMENTS, MAX_MEMORY_BYTES}
 use Rattle.reference_machine.specs.declared.limits.TheConstants.{MAX_DELIVERY_CAPSULES}
 use Rattle.reference_machine.specs.declared.trace.BootEnd.{BootEnd}
 use Rattle.reference_machine.specs.declared.trace.BootEnd.TheVariants as ends

@@ -5,6 +5,7 @@ use Rattle.std.specs.Prelude.{ℕ, Bool, true, false, ◌==◌, ◌&&◌, ◌||�
 use Rattle.std.specs.Prelude.{length, map, slice_get, Option, None, Some, option_map, unwrap_or}
 use Rattle.std.specs.Prelude.{if◌then◌else◌}
 use Rattle.std.specs.List.{list_all, enumerate_from}
+use Rattle.cu_base.specs.Refusals.{Row, row, first_refusal}
 use Rattle.cu_base.specs.declared.guid.Guid.{Guid}
 use Rattle.image_parts.specs.Admission.{is_admitted}
 use Rattle.bench_model.specs.Boards.{BoardValue}
@@ -58,18 +59,22 @@ abbrev pub known_parts : Option Parts → Parts
 known_parts None = record { version = 0; lowest = 0; dependency = []; payload = [] }
 known_parts (Some parts) = parts
 
--- the checks of a try whose image has these parts, in their order: whether each passes, and the
--- status where it fails
-abbrev pub checks : Formats → Machine → BootUnit → Option Parts → List (Bool × ℕ)
+-- the row of a check: where it does not pass, it refuses with this status
+abbrev pub check : Bool → ℕ → Row ℕ
+check passes status = row (not passes) status
+
+-- the checks of a try whose image has these parts, in their order
+abbrev pub checks : Formats → Machine → BootUnit → Option Parts → List (Row ℕ)
 checks f m u parts =
-    (is_split parts, LAST_ATTEMPT_STATUS_ERROR_INVALID_FORMAT)
-    ∷ (is_admitted m.board.digests u.image, LAST_ATTEMPT_STATUS_ERROR_AUTH_ERROR)
-    ∷ (
-      nat_le (length p.payload) (capacity_of m.board d),
-      LAST_ATTEMPT_STATUS_ERROR_INSUFFICIENT_RESOURCES,
-    )
-    ∷ (nat_le (floor_of m.board m.list d) p.version, LAST_ATTEMPT_STATUS_ERROR_INCORRECT_VERSION)
-    ∷ (keeps_dependencies f m d p, LAST_ATTEMPT_STATUS_ERROR_UNSATISFIED_DEPENDENCIES)
+    check (is_split parts) LAST_ATTEMPT_STATUS_ERROR_INVALID_FORMAT
+    ∷ check (is_admitted m.board.digests u.image) LAST_ATTEMPT_STATUS_ERROR_AUTH_ERROR
+    ∷ check
+    (nat_le (length p.payload) (capacity_of m.board d))
+    LAST_ATTEMPT_STATUS_ERROR_INSUFFICIENT_RESOURCES
+    ∷ check
+    (nat_le (floor_of m.board m.list d) p.version)
+    LAST_ATTEMPT_STATUS_ERROR_INCORRECT_VERSION
+    ∷ check (keeps_dependencies f m d p) LAST_ATTEMPT_STATUS_ERROR_UNSATISFIED_DEPENDENCIES
     ∷ []
   where
     p : Parts
@@ -78,14 +83,10 @@ checks f m u parts =
     d : ℕ
     d = u.key.device
 
--- the status of the first check that fails, none where all pass
-abbrev pub first_failed : List (Bool × ℕ) → Option ℕ
-first_failed [] = None
-first_failed ((passes, status) ∷ rest) = if passes then first_failed rest else Some status
-
--- why a try whose image has these parts is refused
+-- why a try whose image has these parts is refused: the status of the first check that does not
+-- pass, none where all pass
 abbrev pub refusal_with : Formats → Machine → BootUnit → Option Parts → Option ℕ
-refusal_with f m u parts = first_failed (checks f m u parts)
+refusal_with f m u parts = first_refusal (checks f m u parts)
 
 -- why a try is refused
 abbrev pub refusal : Formats → Machine → BootUnit → Option ℕ

@@ -22,6 +22,7 @@ pub use attempt_status::{
     LAST_ATTEMPT_STATUS_ERROR_UNSATISFIED_DEPENDENCIES, LAST_ATTEMPT_STATUS_ERROR_UNSUCCESSFUL,
     LAST_ATTEMPT_STATUS_SUCCESS,
 };
+pub use bench_model::{MAX_FILES, MAX_FOLDER_BYTES, MAX_MEMORY_BYTES, MAX_SEGMENTS};
 use cu_base::Items;
 pub use event::Event;
 pub use laws::{
@@ -31,10 +32,7 @@ pub use laws::{
     the_heal_stands_before_the_volume, the_last_alone_is_open, the_limits_are_these,
     the_list_only_grows, units_stand_in_order, without_faults_there_is_one_machine,
 };
-pub use limits::{
-    MAX_CAPSULE_ITEMS, MAX_DELIVERY_CAPSULES, MAX_FILES, MAX_FOLDER_BYTES, MAX_MEMORY_BYTES,
-    MAX_SEGMENTS, MAX_STAGED,
-};
+pub use limits::{MAX_CAPSULE_ITEMS, MAX_DELIVERY_CAPSULES, MAX_STAGED};
 pub use report::Report;
 pub use samples::{sample_boots, sample_deliveries, sample_orders, sample_results, sample_staging};
 pub use snapshot::{CapsuleResult, EsrtEntry, FmpResult, FolderFile, Snapshot, StagedPair};

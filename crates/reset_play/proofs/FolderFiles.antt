@@ -5,7 +5,7 @@ use Rattle.std.proofs.Common.{◌∙◌, Option}
 use Rattle.std.proofs.lemmas.Bool.Decides.{nat_tests}
 use Rattle.std.specs.List.{list_any, list_all}
 use Rattle.bench_model.specs.Boards.{BoardValue}
-use Rattle.reference_machine.specs.declared.limits.TheConstants.{MAX_FILES}
+use Rattle.bench_model.specs.declared.outside_limits.TheConstants.{MAX_FILES}
 use Rattle.reference_machine.specs.Events.{Outcome}
 use Rattle.reference_machine.specs.Machine.{File, first_moment}
 use Rattle.reset_play.specs.Plays.{is_thin_on}

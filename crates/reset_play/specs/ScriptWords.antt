@@ -3,7 +3,8 @@ use Rattle.std.specs.Prelude.{ℕ, ◌+◌, ◌-◌, ◌*◌, ◌%◌, Bool, ◌
 use Rattle.std.specs.Prelude.{if◌then◌else◌, List, [], ◌∷◌, length, slice_index, Option, Some, None}
 use Rattle.std.specs.Char.{is_ascii_digit}
 use Rattle.std.specs.List.{list_all, slice_split}
-use Rattle.reset_play.specs.declared.script.limits.TheConstants.{MAX_FILE_NAME, MAX_INPUT_NAME}
+use Rattle.reset_play.specs.declared.script.limits.TheConstants.{MAX_INPUT_NAME}
+use Rattle.bench_model.specs.declared.outside_limits.TheConstants.{MAX_FILE_NAME}
 use Rattle.reset_play.specs.declared.script.limits.TheConstants.{MAX_POKE_BYTES}
 
 -- the parts of a text between marks of one kind: one more than there are marks

@@ -4,7 +4,7 @@ use Rattle.std.specs.Prelude.{◌≤◌, IsTrue, true, length, List, [], ◌∷�
 use Rattle.std.specs.Prelude.{Some, ◌==◌, map, not, if◌then◌else◌}
 use Rattle.std.specs.List.{list_all}
 use Rattle.bench_model.specs.Boards.{BoardValue}
-use Rattle.reference_machine.specs.declared.limits.TheConstants.{MAX_FILES}
+use Rattle.bench_model.specs.declared.outside_limits.TheConstants.{MAX_FILES}
 use Rattle.reference_machine.specs.declared.report.Report.{Report}
 use Rattle.reference_machine.specs.declared.unit.End.TheVariants.{Sealed}
 use Rattle.reference_machine.specs.declared.unit.Kind.TheVariants.{Try, Heal}

@@ -6,7 +6,8 @@ ghost use Rattle.reference_machine.specs.declared.event.Event.{Event};
 ghost use Rattle.reset_play.specs.ScriptSpelling.{Fits, script_text};
 ghost use Rattle.reset_play.specs.ScriptText.{script_said};
 
-use super::limits::{MAX_COUNT, MAX_EVENTS, MAX_FILE_NAME, MAX_INPUT_NAME, MAX_POKE_BYTES};
+use super::limits::{MAX_COUNT, MAX_EVENTS, MAX_INPUT_NAME, MAX_POKE_BYTES};
+use bench_model::MAX_FILE_NAME;
 
 /// The text of events says those events.
 pub fn scripts_read_back()

@@ -9,8 +9,5 @@ pub const MAX_POKE_BYTES: usize = 4_096;
 /// The greatest number of an event that counts calls or moves.
 pub const MAX_COUNT: u32 = 1_000_000;
 
-/// The most bytes of the name of a capsule file.
-pub const MAX_FILE_NAME: usize = 40;
-
 /// The most bytes of the name of an input.
 pub const MAX_INPUT_NAME: usize = 64;

@@ -6,7 +6,8 @@ ghost use Rattle.std.specs.Str.{IsAscii};
 ghost use Rattle.reset_play.specs.ScriptWords.{is_name_byte, is_file_name, is_input_name};
 ghost use Rattle.reset_play.specs.ScriptWords.{is_within};
 
-use super::limits::{MAX_FILE_NAME, MAX_INPUT_NAME};
+use super::limits::MAX_INPUT_NAME;
+use bench_model::MAX_FILE_NAME;
 use cu_base::{NoMemory, Text};
 use std::alloc::Global;
 

@@ -88,7 +88,7 @@ impl<'a> ListPlatform<'a> {
         let is_known = has_file(&self.files, name.as_str());
         let is_crowded = self.files.len() >= MAX_FILES;
         let sum = bytes_beside(&self.files, name.as_str()).saturating_add(bytes.len());
-        is_crowded && !is_known || (sum > MAX_FOLDER_BYTES || self.last_file == u64::MAX)
+        is_crowded && !is_known || (sum > MAX_FOLDER_BYTES as usize || self.last_file == u64::MAX)
     }
 
     /// Puts a thin file that has a target into the folder.

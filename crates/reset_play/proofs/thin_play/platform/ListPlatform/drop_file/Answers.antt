@@ -1,7 +1,7 @@
 use Rattle.std.proofs.Common.{◌≡◌, ◌+◌, ◌<◌, ◌∷◌, ◌++◌, [], List, ℕ, IsTrue, not, false, filter}
 use Rattle.std.proofs.Common.{length, sym, ap, subst, ◌∙◌}
 use Rattle.std.specs.List.{list_any}
-use Rattle.reference_machine.specs.declared.limits.TheConstants.{MAX_FILES}
+use Rattle.bench_model.specs.declared.outside_limits.TheConstants.{MAX_FILES}
 use Rattle.reference_machine.specs.Events.{is_folder_full, plain}
 use Rattle.reference_machine.specs.Machine.{File, Machine}
 use Rattle.reference_machine.specs.Names.{is_same_name}
