@@ -1,7 +1,7 @@
 ghost use Rattle.std.specs.Prelude.{◌<◌, IsTrue};
 ghost use Rattle.bench_model.specs.Names.{is_device_name};
 
-use crate::{Board, Device, Devices, Digests, is_device_name};
+use crate::{Board, Device, Devices, Digests, LayFault, VolumeFault, is_device_name};
 use cu_base::{Digest, Guid, Text};
 use std::alloc::Global;
 use std::process::Abort;
@@ -63,4 +63,25 @@ fn devices_of_a_board(rt: HostRuntime) {
     assert_eq!(rt; devices.len(), 1);
     assert!(rt; devices.at(0).is_some());
     assert!(rt; devices.at(1).is_none());
+}
+
+#[test]
+fn faults_are_told_in_words(rt: HostRuntime) {
+    let alloc = rt.alloc();
+    for (fault, want) in [
+        (VolumeFault::Failed, "the volume failed"),
+        (VolumeFault::Full, "the folder takes no further file"),
+        (VolumeFault::Memory, "out of memory"),
+    ] {
+        let shown = format!(in alloc; "{fault}").expect(&rt, "memory");
+        assert_eq!(rt; shown.as_str(), want);
+    }
+    for (fault, want) in [
+        (LayFault::Wraps, "the bytes reach the last address"),
+        (LayFault::Full, "the memory takes no further segment"),
+        (LayFault::Memory, "out of memory"),
+    ] {
+        let shown = format!(in alloc; "{fault}").expect(&rt, "memory");
+        assert_eq!(rt; shown.as_str(), want);
+    }
 }

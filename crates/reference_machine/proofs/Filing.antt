@@ -4,6 +4,7 @@ use Rattle.std.proofs.Common.{◌==◌, List, [], ◌∷◌, ◌++◌, length, m
 use Rattle.std.proofs.Common.{◌∙◌, subst}
 use Rattle.std.specs.List.{AllByRecursion, list_any}
 use Rattle.std.proofs.lemmas.Bool.Decides.{nat_tests}
+use Rattle.cu_base.proofs.Lists.{filter_more}
 use Rattle.reference_machine.specs.declared.unit.UnitKey.{UnitKey}
 use Rattle.reference_machine.specs.Boots.{BootTask, progress_with}
 use Rattle.reference_machine.specs.Boots.BootTask.{Settles, Unstages, Does, Prunes, Removes, Clears}
@@ -117,20 +118,6 @@ unit_kept in_progress key s h =
     subst (λ i. has (cond (key.ticket.route == 1) kept_all in_progress) i ≡ true) serial at
 
 -- one more element
-filter_more : {X : Type 0} (p : X → Bool) (xs : List X) (x : X)
-    → length (filter p (xs ++ x ∷ [])) ≡ length (filter p xs) + cond (p x) 1 0
-filter_more p [] x =
-    elim (p x) as (λ b. length (cond b (x ∷ []) []) ≡ 0 + cond b 1 0) [ true ↦ refl | false ↦ refl ]
-filter_more p (y ∷ ys) x =
-    let h : length (filter p (ys ++ x ∷ [])) ≡ length (filter p ys) + cond (p x) 1 0 =
-    filter_more p ys x in
-    elim (p y) as
-    (λ b. length (cond b (y ∷ filter p (ys ++ x ∷ [])) (filter p (ys ++ x ∷ [])))
-    ≡ length (cond b (y ∷ filter p ys) (filter p ys)) + cond (p x) 1 0) [
-      | true ↦ omega arith
-      | false ↦ h
-    ]
-
 pub spent_more : (list : List Element) (e : Element) (s : ℕ)
     → spent (list ++ e ∷ []) s ≡ spent list s + cond (is_of 1 s e.key && is_closed e) 1 0
 spent_more list e s = filter_more (λ x. is_of 1 s x.key && is_closed x) list e

@@ -4,6 +4,7 @@ use Rattle.std.proofs.Common.{List, [], ◌∷◌, ◌++◌, length, map, filter
 use Rattle.std.proofs.Common.{◌∙◌, subst, append_assoc, append-nil, Some}
 use Rattle.std.specs.List.{enumerate_from}
 use Rattle.std.proofs.lemmas.Bool.Decides.{nat_tests}
+use Rattle.cu_base.proofs.Lists.{filter_more}
 use Rattle.cu_base.specs.declared.time.EfiTime.{EfiTime}
 use Rattle.reference_machine.specs.declared.unit.End.{End}
 use Rattle.reference_machine.specs.declared.unit.UnitKey.{UnitKey}
@@ -48,20 +49,6 @@ keys_closed end now (e ∷ es) =
     ∙ ap (λ ks. e.key ∷ ks) (keys_closed end now es)
 
 -- one more key is one more of its delivery, and none of another
-filter_more : (p : UnitKey → Bool) (xs : List UnitKey) (k : UnitKey)
-    → length (filter p (xs ++ k ∷ [])) ≡ length (filter p xs) + cond (p k) 1 0
-filter_more p [] k =
-    elim (p k) as (λ b. length (cond b (k ∷ []) []) ≡ 0 + cond b 1 0) [ true ↦ refl | false ↦ refl ]
-filter_more p (x ∷ xs) k =
-    let h : length (filter p (xs ++ k ∷ [])) ≡ length (filter p xs) + cond (p k) 1 0 =
-    filter_more p xs k in
-    elim (p x) as
-    (λ b. length (cond b (x ∷ filter p (xs ++ k ∷ [])) (filter p (xs ++ k ∷ [])))
-    ≡ length (cond b (x ∷ filter p xs) (filter p xs)) + cond (p k) 1 0) [
-      | true ↦ omega arith
-      | false ↦ h
-    ]
-
 pub count_more : (r s : ℕ) (xs : List UnitKey) (k : UnitKey) → is_of r s k ≡ true
     → count r s (xs ++ k ∷ []) ≡ count r s xs + 1
 count_more r s xs k h = filter_more (is_of r s) xs k ∙ ap (λ b. count r s xs + cond b 1 0) h

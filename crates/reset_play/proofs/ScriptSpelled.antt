@@ -19,6 +19,7 @@ use Rattle.std.specs.Result.{result_ok}
 use Rattle.std.specs.List.{AllByRecursion, join_with_byte, list_all}
 use Rattle.bench_model.specs.declared.choice.Choice.{Choice}
 use Rattle.bench_model.specs.declared.choice.Choice.TheVariants.{New, Old, Mix, Fill}
+use Rattle.cu_base.proofs.TimeLemmas.{most_days}
 use Rattle.cu_base.proofs.TimeLemmas.{shows_back}
 use Rattle.cu_base.specs.Times.{days_in, is_in_calendar, moment, time_text}
 use Rattle.cu_base.specs.declared.faults.BaseFault.{BaseFault}
@@ -278,9 +279,6 @@ digit_byte b is = grind (arith, nat_tests)
 
 plain_byte : (b : ℕ) → is_within 0x21 0x7E b ≡ true → is_within 0x20 0x7E b ≡ true
 plain_byte b is = grind (arith, nat_tests)
-
-most_days : (year month : ℕ) → days_in year month ≤ 31
-most_days year month = grind (arith, nat_tests)
 
 line_from : (line : List ℕ) (its_words : List (List ℕ)) (event : Event) → is_plain line ≡ true
     → is_skipped line ≡ false

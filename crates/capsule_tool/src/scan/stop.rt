@@ -1,18 +1,17 @@
 use capsule_grammar::Refusal;
 use cu_base::NoMemory;
 use cu_io::StreamFault;
-use thiserror::Error;
 
 /// Why a scan went no further.
-#[derive(Clone, Copy, Debug, PartialEq, Eq, Error)]
+#[derive(Clone, Copy, Debug, PartialEq, Eq)]
 pub enum ScanStop {
-    #[error("{0}")]
+    /// What was read is refused.
     Refused(Refusal),
-    #[error("the input ends within the capsule")]
+    /// The input ends within the capsule.
     Ended,
-    #[error("a read failed")]
+    /// A read failed.
     Failed,
-    #[error("out of memory")]
+    /// Memory ran out.
     Memory,
 }
 
