@@ -17,6 +17,7 @@ mod moment;
 mod number;
 mod places;
 mod status;
+mod steps;
 #[cfg(test)]
 mod tests;
 mod text;
@@ -36,6 +37,7 @@ pub use number::{
 };
 pub use places::{guid_at, three_at, u16_at, u32_at, u64_at};
 pub use status::EfiStatus;
+pub use steps::{CountLedger, Ledger, Steps};
 pub use text::Text;
 pub use ticket::Ticket;
 pub use time::{EfiTime, UNSPECIFIED_ZONE};

@@ -2,8 +2,8 @@
 //! memory of each function that may want memory.
 
 use crate::{
-    BaseFault, Blob, EfiStatus, EfiTime, Failed, Guid, NoMemory, Numbers, Text, UNSPECIFIED_ZONE,
-    put_u16, put_u32, put_u64, read_u16, read_u32, read_u64,
+    BaseFault, Blob, CountLedger, EfiStatus, EfiTime, Failed, Guid, Ledger, NoMemory, Numbers,
+    Steps, Text, UNSPECIFIED_ZONE, put_u16, put_u32, put_u64, read_u16, read_u32, read_u64,
 };
 use std::test::Fail;
 
@@ -286,4 +286,14 @@ fn want_of_memory_and_a_failed_call_have_a_text(rt: HostRuntime) -> Result<(), F
     let failed = format!(in rt.alloc(); "{Failed}")?;
     assert_eq!(rt; failed.as_str(), "a call of the outside failed");
     Ok(())
+}
+
+#[test]
+fn steps_are_counted_one_by_one(rt: HostRuntime) {
+    let mut steps = Steps::new(CountLedger { count: 7 });
+    steps.tick();
+    steps.tick();
+    let mut ledger = CountLedger { count: 0 };
+    ledger.tick();
+    assert_eq!(rt; ledger, CountLedger { count: 1 });
 }
