@@ -1,0 +1,4 @@
+pub mod EntryLemmas
+pub mod Growing
+pub mod ResultLemmas
+pub mod UnitLemmas

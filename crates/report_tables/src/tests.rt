@@ -1,0 +1,190 @@
+//! A table and a result by hand from the UEFI specification, each refusal of both readers, and each
+//! call with ample memory.
+
+use crate::{
+    EsrtEntry, Esrt, FmpResult, ReportFault, ResultVar, esrt_of, next_number, result_name,
+};
+use bench_model::{Board, Device, Devices};
+use cu_base::{DevState, EfiStatus, EfiTime, Guid, Items, NoMemory, Text};
+use std::test::Fail;
+
+/// aaaaaaaa-0000-0000-0000-000000000001 and bbbbbbbb-0000-0000-0000-000000000002 as they stand in
+/// a table.
+const SYSTEM: Guid = Guid {
+    bytes: [0xaa, 0xaa, 0xaa, 0xaa, 0, 0, 0, 0, 0, 0, 0, 0, 0, 0, 0, 1],
+};
+
+const CONTROLLER: Guid = Guid {
+    bytes: [0xbb, 0xbb, 0xbb, 0xbb, 0, 0, 0, 0, 0, 0, 0, 0, 0, 0, 0, 2],
+};
+
+const FMP_CAPSULE: Guid = Guid {
+    bytes: [
+        0xed, 0xd5, 0xcb, 0x6d, 0x2d, 0xe8, 0x44, 0x4c, 0xbd, 0xa1, 0x71, 0x94, 0x19, 0x9a, 0xd9,
+        0x2a,
+    ],
+};
+
+/// A table of the system's firmware at version 4, which was updated, and of a controller at 7.
+const TABLE: [u8; 96] = [
+    2, 0, 0, 0, 2, 0, 0, 0, 1, 0, 0, 0, 0, 0, 0, 0, //
+    0xaa, 0xaa, 0xaa, 0xaa, 0, 0, 0, 0, 0, 0, 0, 0, 0, 0, 0, 1, //
+    1, 0, 0, 0, 4, 0, 0, 0, 3, 0, 0, 0, 0, 0, 0, 0, 4, 0, 0, 0, 0, 0, 0, 0, //
+    0xbb, 0xbb, 0xbb, 0xbb, 0, 0, 0, 0, 0, 0, 0, 0, 0, 0, 0, 2, //
+    2, 0, 0, 0, 7, 0, 0, 0, 7, 0, 0, 0, 0, 0, 0, 0, 0, 0, 0, 0, 0, 0, 0, 0,
+];
+
+/// The result of the file `sys.cap` on the device `sys`, a success.
+const RESULT: [u8; 92] = [
+    0x5c, 0, 0, 0, 0, 0, 0, 0, //
+    0xed, 0xd5, 0xcb, 0x6d, 0x2d, 0xe8, 0x44, 0x4c, 0xbd, 0xa1, 0x71, 0x94, 0x19, 0x9a, 0xd9, 0x2a,
+    0xe8, 0x07, 5, 6, 7, 8, 9, 0, 0, 0, 0, 0, 0xff, 0x07, 0, 0, //
+    0, 0, 0, 0, 0, 0, 0, 0, //
+    1, 0, 0, 1, //
+    0xaa, 0xaa, 0xaa, 0xaa, 0, 0, 0, 0, 0, 0, 0, 0, 0, 0, 0, 1, //
+    b's', 0, b'y', 0, b's', 0, b'.', 0, b'c', 0, b'a', 0, b'p', 0, 0, 0, //
+    b's', 0, b'y', 0, b's', 0, 0, 0,
+];
+
+fn table_entries() -> [EsrtEntry; 2] {
+    [
+        EsrtEntry {
+            class: SYSTEM,
+            fw_type: 1,
+            version: 4,
+            lowest: 3,
+            flags: 0,
+            last_version: 4,
+            last_status: 0,
+        },
+        EsrtEntry {
+            class: CONTROLLER,
+            fw_type: 2,
+            version: 7,
+            lowest: 7,
+            flags: 0,
+            last_version: 0,
+            last_status: 0,
+        },
+    ]
+}
+
+#[test]
+fn a_table_is_written_and_read(rt: HostRuntime) -> Result<(), Fail> {
+    let esrt = Esrt {
+        entries: Items::from_slice(rt.alloc(), &table_entries())?,
+    };
+    assert_eq!(rt; esrt.write(rt.alloc())?.as_slice(), &TABLE[..]);
+    let read = Esrt::read(rt.alloc(), &TABLE)?;
+    assert_eq!(rt; read.entries.as_slice(), &table_entries()[..]);
+    Ok(())
+}
+
+/// The refusal of a table.
+fn table_refusal(rt: &HostRuntime, bytes: &[u8]) -> Option<ReportFault> {
+    Esrt::read(rt.alloc(), bytes).err()
+}
+
+#[test]
+fn the_first_wrong_field_of_a_table_is_told(rt: HostRuntime) {
+    for n in 0..TABLE.len() {
+        let why = if n < 16 {
+            ReportFault::Short
+        } else {
+            ReportFault::BadSize
+        };
+        assert_eq!(rt; table_refusal(&rt, &TABLE[..n]), Some(why), "{n}");
+    }
+    let rows = [
+        (4, 3, ReportFault::BadCount),
+        (8, 2, ReportFault::BadVersion),
+        (15, 1, ReportFault::BadVersion),
+    ];
+    for (at, byte, why) in rows {
+        let mut bytes = TABLE;
+        bytes[at] = byte;
+        assert_eq!(rt; table_refusal(&rt, &bytes), Some(why), "{at}");
+    }
+    let mut more = TABLE;
+    more[0] = 3;
+    more[4] = 3;
+    assert_eq!(rt; table_refusal(&rt, &more), Some(ReportFault::BadSize));
+    let none = [0, 0, 0, 0, 0, 0, 0, 0, 1, 0, 0, 0, 0, 0, 0, 0];
+    assert_eq!(rt; table_refusal(&rt, &none), None);
+}
+
+#[test]
+fn a_result_is_written_and_read(rt: HostRuntime) -> Result<(), Fail> {
+    let result = ResultVar {
+        guid: FMP_CAPSULE,
+        time: EfiTime::from_text("2024-05-06T07:08:09")?,
+        status: EfiStatus::SUCCESS,
+        fmp: Some(FmpResult {
+            payload: 0,
+            index: 1,
+            type_id: SYSTEM,
+            file: Text::from_str(rt.alloc(), "sys.cap")?,
+            target: Text::from_str(rt.alloc(), "sys")?,
+        }),
+    };
+    assert_eq!(rt; result.write(rt.alloc())?.as_slice(), &RESULT[..]);
+    let mut reserved = RESULT;
+    reserved[4] = 7;
+    let read = ResultVar::read(rt.alloc(), &reserved)?;
+    assert_eq!(rt; read.guid, FMP_CAPSULE);
+    assert_eq!(rt; read.time, result.time);
+    assert_eq!(rt; read.status, EfiStatus::SUCCESS);
+    match read.fmp {
+        None => assert!(rt; false, "the part on the payload is there"),
+        Some(fmp) => {
+            assert_eq!(rt; (fmp.payload, fmp.index, fmp.type_id), (0, 1, SYSTEM));
+            assert_eq!(rt; fmp.file.as_str(), "sys.cap");
+            assert_eq!(rt; fmp.target.as_str(), "sys");
+        }
+    }
+    Ok(())
+}
+
+/// The refusal of a result.
+fn result_refusal(rt: &HostRuntime, bytes: &[u8]) -> Option<ReportFault> {
+    ResultVar::read(rt.alloc(), bytes).err()
+}
+
+#[test]
+fn the_first_wrong_field_of_a_result_is_told(rt: HostRuntime) {
+    for n in 0..RESULT.len() {
+        let why = if n < 48 {
+            ReportFault::Short
+        } else {
+            ReportFault::BadSize
+        };
+        assert_eq!(rt; result_refusal(&rt, &RESULT[..n]), Some(why), "{n}");
+    }
+    // each front with its own length as VariableTotalSize
+    for n in 48..RESULT.len() {
+        let mut bytes = RESULT;
+        bytes[0] = n as u8;
+        let why = if n == 48 {
+            None
+        } else if n < 68 {
+            Some(ReportFault::Short)
+        } else {
+            Some(ReportFault::NoTerminator)
+        };
+        assert_eq!(rt; result_refusal(&rt, &bytes[..n]), why, "{n}");
+    }
+    let rows = [
+        (48, 2, ReportFault::BadVersion),
+        (68, 0x80, ReportFault::NotAscii),
+        (69, 1, ReportFault::NotAscii),
+        (83, 1, ReportFault::NotAscii),
+        (86, 0x80, ReportFault::NotAscii),
+        (91, 1, ReportFault::NoTerminator),
+        (86, 0, ReportFault::BadSize),
+    ];
+    for (at, byte, why) in rows {
+        let mut bytes = RESULT;
+        bytes[at] = byte;
+        assert_eq!(rt; result_refusal(&rt, &bytes), Some(why), "{at}");
+    }
+}
