@@ -2,7 +2,8 @@
 use Rattle.std.proofs.Common.{ℕ, ◌≤◌, Bool, true, false, cond, List, [], ◌∷◌, ◌++◌, map, arith}
 use Rattle.std.proofs.Common.{filter}
 use Rattle.bench_model.specs.Boards.{BoardValue}
-use Rattle.reference_machine.specs.Spent.{Element, floor_of, factory_floor, greatest}
+use Rattle.report_tables.specs.Entries.{greatest}
+use Rattle.reference_machine.specs.Spent.{Element, floor_of, factory_floor}
 
 -- a number is at most the greatest of it and others
 pub from_first : (n : ℕ) (ms : List ℕ) → n ≤ greatest n ms

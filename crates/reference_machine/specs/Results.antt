@@ -1,10 +1,10 @@
 -- What the platform shows of the list of spent units: the last attempt of each device, the result
 -- variables (UEFI 2.10, 8.5.6) and the EFI System Resource Table (UEFI 2.10, 23.4).
-use Rattle.std.specs.Prelude.{ℕ, ◌+◌, ◌%◌, ◌^◌, ◌==◌, ◌&&◌, not, List, [], ◌∷◌, map, filter}
+use Rattle.std.specs.Prelude.{ℕ, ◌+◌, ◌%◌, ◌^◌, ◌==◌, ◌&&◌, List, [], ◌∷◌, length, map, filter}
 use Rattle.std.specs.Prelude.{filter_map, find, slice_get, Option, None, Some, option_map}
 use Rattle.std.specs.Prelude.{option_and_then, unwrap_or, if◌then◌else◌}
 use Rattle.std.specs.List.{enumerate_from, last_or, range_with_len}
-use Rattle.cu_base.specs.declared.guid.Guid.{Guid}
+use Rattle.cu_base.specs.declared.device_state.DevState.{DevState}
 use Rattle.cu_base.specs.declared.status.EfiStatus.{EfiStatus}
 use Rattle.reference_machine.specs.declared.attempt_status.TheConstants.{LAST_ATTEMPT_STATUS_SUCCESS}
 use Rattle.reference_machine.specs.declared.attempt_status.TheConstants.{LAST_ATTEMPT_STATUS_ERROR_UNSUCCESSFUL}
@@ -14,8 +14,8 @@ use Rattle.reference_machine.specs.declared.attempt_status.TheConstants.{LAST_AT
 use Rattle.reference_machine.specs.declared.attempt_status.TheConstants.{LAST_ATTEMPT_STATUS_ERROR_AUTH_ERROR}
 use Rattle.reference_machine.specs.declared.attempt_status.TheConstants.{LAST_ATTEMPT_STATUS_ERROR_UNSATISFIED_DEPENDENCIES}
 use Rattle.reference_machine.specs.declared.snapshot.CapsuleResult.{CapsuleResult}
-use Rattle.reference_machine.specs.declared.snapshot.EsrtEntry.{EsrtEntry}
-use Rattle.reference_machine.specs.declared.snapshot.FmpResult.{FmpResult}
+use Rattle.report_tables.specs.declared.esrt.EsrtEntry.{EsrtEntry}
+use Rattle.report_tables.specs.declared.result.FmpResult.{FmpResult}
 use Rattle.reference_machine.specs.declared.unit.End.{End}
 use Rattle.reference_machine.specs.declared.unit.End.TheVariants.{Refused, Sealed, Kept, Lost}
 use Rattle.reference_machine.specs.declared.unit.Kind.{Kind}
@@ -23,9 +23,9 @@ use Rattle.reference_machine.specs.declared.unit.Kind.TheVariants.{Try, Heal, Sk
 use Rattle.reference_machine.specs.declared.unit.UnitLine.{UnitLine}
 use Rattle.bench_model.specs.Boards.{BoardValue}
 use Rattle.bench_model.specs.Devices.{DeviceValue}
-use Rattle.reference_machine.specs.Deliveries.{is_same_guid}
-use Rattle.reference_machine.specs.Spent.{Standing, Element, is_closed, end_of, is_on, greatest}
-use Rattle.reference_machine.specs.Spent.{least, floor_of, version_of}
+use Rattle.report_tables.specs.Entries.{entries_of}
+use Rattle.reference_machine.specs.Spent.{Standing, Element, is_closed, end_of, is_on, floor_of}
+use Rattle.reference_machine.specs.Spent.{version_of}
 use Rattle.reference_machine.specs.Spent.Standing.{Open, Closed}
 
 -- an EFI_STATUS: 0, or an error code, which has the top bit set (UEFI 2.10, appendix D)
@@ -127,10 +127,12 @@ abbrev pub result_at : BoardValue → ℕ → Element → Standing → Option Ca
 result_at board number e Open = None
 result_at board number e (Closed end at) = Some (record {
   number = number;
-  guid = e.capsule;
-  time = at;
-  status = status_with e.kind end;
-  fmp = fmp_part board e e.kind;
+  variable = record {
+    guid = e.capsule;
+    time = at;
+    status = status_with e.kind end;
+    fmp = fmp_part board e e.kind;
+  };
 })
 
 -- the last closed element that has a result number
@@ -152,40 +154,16 @@ last_result board list =
     option_map (λ p. result_number board p.0)
     (last_or None (enumerate_from 0 (filter is_closed list)))
 
--- the devices of one type with their numbers, in board order
-abbrev pub devices_of_type : BoardValue → Guid → List (ℕ × DeviceValue)
-devices_of_type board g = filter (λ p. is_same_guid p.1.type_id g) (enumerate_from 0 board.devices)
-
--- the first of these attempts whose status is not 0, else the first one
-abbrev pub told_attempt : ℕ × ℕ → List (ℕ × ℕ) → ℕ × ℕ
-told_attempt first rest = unwrap_or (find (λ a. not (a.1 == 0)) (first ∷ rest)) first
-
--- the ESRT entry of a type: the least version and the greatest floor of its devices, type and flags
--- of the first one, and the attempt that is told
-abbrev pub esrt_entry : BoardValue → List Element → ℕ × DeviceValue → List (ℕ × DeviceValue)
-    → EsrtEntry
-esrt_entry board list (d, x) others = record {
-  class = x.type_id;
-  fw_type = x.fw_type;
-  version = least (version_of board list d) (map (λ p. version_of board list p.0) others);
-  lowest = greatest (floor_of board list d) (map (λ p. floor_of board list p.0) others);
-  flags = x.flags;
-  last_version = attempt.0;
-  last_status = attempt.1;
+-- the state of a device: its version, the floor in force and its last attempt
+abbrev pub state_of : BoardValue → List Element → ℕ → DevState
+state_of board list d = record {
+  version = version_of board list d;
+  floor = floor_of board list d;
+  last_version = (last_attempt list d).0;
+  last_status = (last_attempt list d).1;
 }
-  where
-    attempt : ℕ × ℕ
-    attempt = told_attempt (last_attempt list d) (map (λ p. last_attempt list p.0) others)
 
--- the entry of a device's type, where the device is the first of its type
-abbrev pub esrt_entry_at : BoardValue → List Element → ℕ × DeviceValue → List (ℕ × DeviceValue)
-    → Option EsrtEntry
-esrt_entry_at board list p [] = None
-esrt_entry_at board list p (first ∷ others) =
-    if p.0 == first.0 then Some (esrt_entry board list first others) else None
-
--- one entry for each type, in order of first appearance on the board
+-- the entries of the ESRT by the states of the devices
 abbrev pub esrt_of : BoardValue → List Element → List EsrtEntry
 esrt_of board list =
-    filter_map (λ p. esrt_entry_at board list p (devices_of_type board p.1.type_id))
-    (enumerate_from 0 board.devices)
+    entries_of board (map (state_of board list) (range_with_len 0 (length board.devices)))

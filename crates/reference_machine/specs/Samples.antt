@@ -6,7 +6,7 @@ use Rattle.cu_base.specs.declared.guid.Guid.{Guid}
 use Rattle.bench_model.specs.Boards.{BoardValue}
 use Rattle.bench_model.specs.Devices.{DeviceValue}
 use Rattle.reference_machine.specs.declared.snapshot.CapsuleResult.{CapsuleResult}
-use Rattle.reference_machine.specs.declared.snapshot.EsrtEntry.{EsrtEntry}
+use Rattle.report_tables.specs.declared.esrt.EsrtEntry.{EsrtEntry}
 use Rattle.reference_machine.specs.declared.unit.End.{End}
 use Rattle.reference_machine.specs.declared.unit.End.TheVariants.{Refused, Sealed, Lost}
 use Rattle.reference_machine.specs.declared.unit.Kind.{Kind}
@@ -244,7 +244,8 @@ machine_with list = record (fresh three_devices) { list = list }
 
 -- status and target of the result of an element: none where it has no part on a payload
 abbrev pub result_told : CapsuleResult → ℕ × ℕ × Option (List ℕ)
-result_told r = (r.number, r.status.code, option_map (λ p. p.target) r.fmp)
+result_told r =
+    (r.number, r.variable.status.code, option_map (λ p. p.target) r.variable.fmp)
 
 -- an attempt on the first controller that a boot finds open, and how the boot closes it: the line's
 -- kind and status, and the version that the device has then

@@ -1,6 +1,6 @@
 -- The list of spent units, which only grows, and what is read off it. A place of the list is the
 -- front of it up to there.
-use Rattle.std.specs.Prelude.{ℕ, Bool, true, false, ◌==◌, ◌&&◌, ◌||◌, not, max, min, List, [], ◌∷◌}
+use Rattle.std.specs.Prelude.{ℕ, Bool, true, false, ◌==◌, ◌&&◌, ◌||◌, not, List, [], ◌∷◌}
 use Rattle.std.specs.Prelude.{length, map, filter, slice_get, Option, None, Some, option_map}
 use Rattle.std.specs.Prelude.{unwrap_or, if◌then◌else◌}
 use Rattle.std.specs.List.{enumerate_from, last_or}
@@ -13,6 +13,7 @@ use Rattle.reference_machine.specs.declared.unit.End.{End}
 use Rattle.reference_machine.specs.declared.unit.End.TheVariants.{Refused, Sealed, Kept, Lost}
 use Rattle.bench_model.specs.Boards.{BoardValue}
 use Rattle.bench_model.specs.Devices.{DeviceValue}
+use Rattle.report_tables.specs.Entries.{greatest}
 use Rattle.reference_machine.specs.Formats.{ItemHead}
 
 -- an element is open, or closed with its end at a moment. A unit that tries nothing has no end.
@@ -95,16 +96,6 @@ is_attempt e = is_attempted e.standing
 -- an element is on a device
 abbrev pub is_on : ℕ → Element → Bool
 is_on d e = e.key.device == d
-
--- the greatest of a number and the numbers of a list
-abbrev pub greatest : ℕ → List ℕ → ℕ
-greatest n [] = n
-greatest n (m ∷ ms) = max m (greatest n ms)
-
--- the least of a number and the numbers of a list
-abbrev pub least : ℕ → List ℕ → ℕ
-least n [] = n
-least n (m ∷ ms) = min m (least n ms)
 
 -- the floors of all images that were sealed on a device
 abbrev pub sealed_floors : List Element → ℕ → List ℕ

@@ -1,7 +1,7 @@
 -- What a play tells, as values: the entries of a trace without the room that their lists keep.
 use Rattle.std.specs.Prelude.{ℕ, List, Option}
 use Rattle.reference_machine.specs.declared.snapshot.CapsuleResult.{CapsuleResult}
-use Rattle.reference_machine.specs.declared.snapshot.EsrtEntry.{EsrtEntry}
+use Rattle.report_tables.specs.declared.esrt.EsrtEntry.{EsrtEntry}
 use Rattle.reference_machine.specs.declared.snapshot.FolderFile.{FolderFile}
 use Rattle.reference_machine.specs.declared.snapshot.Snapshot.{Snapshot}
 use Rattle.reference_machine.specs.declared.snapshot.StagedPair.{StagedPair}

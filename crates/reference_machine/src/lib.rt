@@ -34,8 +34,9 @@ pub use laws::{
 };
 pub use limits::{MAX_CAPSULE_ITEMS, MAX_DELIVERY_CAPSULES, MAX_STAGED};
 pub use report::Report;
+pub use report_tables::{EsrtEntry, FmpResult, ResultVar};
 pub use samples::{sample_boots, sample_deliveries, sample_orders, sample_results, sample_staging};
-pub use snapshot::{CapsuleResult, EsrtEntry, FmpResult, FolderFile, Snapshot, StagedPair};
+pub use snapshot::{CapsuleResult, FolderFile, Snapshot, StagedPair};
 pub use trace::{Answer, BootEnd, Entry};
 pub use unit::{End, Kind, UnitKey, UnitLine};
 

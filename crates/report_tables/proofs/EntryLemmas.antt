@@ -65,7 +65,7 @@ pub entry_step : (e : EsrtEntry) (d : DeviceValue) (s : DevState) (version lowes
     (attempt : ℕ × ℕ) (others : List Installed)
     → version ≡ min s.version e.version → lowest ≡ max s.floor e.lowest
     → ((rest : List (ℕ × ℕ)) → told_attempt attempt rest
-      ≡ told_attempt (e.last_version, e.last_status) (attempt_of s ∷ rest))
+    ≡ told_attempt (e.last_version, e.last_status) (attempt_of s ∷ rest))
     → entry_with (entry_made e version lowest attempt) others ≡ entry_with e ((d, s) ∷ others)
 entry_step e d s version lowest attempt others ev el told =
     same_entry e
@@ -75,7 +75,7 @@ entry_step e d s version lowest attempt others ev el told =
     (greatest e.lowest (s.floor ∷ map (λ x. x.1.floor) others))
     (told_attempt attempt (map (λ x. attempt_of x.1) others))
     (told_attempt (e.last_version, e.last_status)
-      (attempt_of s ∷ map (λ x. attempt_of x.1) others))
+    (attempt_of s ∷ map (λ x. attempt_of x.1) others))
     (ap (λ n. least n (map (λ x. x.1.version) others)) ev
     ∙ least_step e.version s.version (map (λ x. x.1.version) others))
     (ap (λ n. greatest n (map (λ x. x.1.floor) others)) el
@@ -109,9 +109,9 @@ zip_take ds ss k d s h same is_d is_s =
     ap (λ xs. zip xs (take (k + 1) ss))
     (take_more ds k d h ∙ ap (λ x. take k ds ++ x ∷ []) (sym is_d))
     ∙ ap (zip (take k ds ++ d ∷ []))
-      (take_more ss k no_state (omega arith) ∙ ap (λ y. take k ss ++ y ∷ []) (sym is_s))
+    (take_more ss k no_state (omega arith) ∙ ap (λ y. take k ss ++ y ∷ []) (sym is_s))
     ∙ zip_more (take k ds) (take k ss) d s
-      (omega (arith, length-take k ds, length-take k ss))
+    (omega (arith, length-take k ds, length-take k ss))
 
 -- a device of this type among devices beside their states
 pub any_zip : (p : DeviceValue → Bool) (ds : List DeviceValue) (ss : List DevState)
@@ -179,7 +179,7 @@ table_step : (out : List EsrtEntry) (x : Installed) (before rest : List Installe
 table_step out x before rest b is =
     ap (λ c. out ++ (cond c [] (entry_of x rest ∷ []) ++ entries_behind (before ++ x ∷ []) rest)) is
     ∙ sym (append_assoc out (cond b [] (entry_of x rest ∷ []))
-      (entries_behind (before ++ x ∷ []) rest))
+    (entries_behind (before ++ x ∷ []) rest))
 
 -- the table seen from one place on and from the next, with what is told at the place
 pub table_next : (out new whole : List EsrtEntry) (ds : List DeviceValue) (ss : List DevState)
@@ -189,7 +189,7 @@ pub table_next : (out new whole : List EsrtEntry) (ds : List DeviceValue) (ss : 
     → new ≡ out ++ cond b [] (entry_of (d, s) (zip (drop (k + 1) ds) (drop (k + 1) ss)) ∷ [])
     → out ++ entries_behind (zip (take k ds) (take k ss)) (zip (drop k ds) (drop k ss)) ≡ whole
     → new ++ entries_behind (zip (take (k + 1) ds) (take (k + 1) ss))
-      (zip (drop (k + 1) ds) (drop (k + 1) ss)) ≡ whole
+    (zip (drop (k + 1) ds) (drop (k + 1) ss)) ≡ whole
 table_next out new whole ds ss k d s b h same is_d is_s any is so_far =
     let before = zip (take k ds) (take k ss) in
     let rest = zip (drop (k + 1) ds) (drop (k + 1) ss) in
@@ -200,7 +200,7 @@ table_next out new whole ds ss k d s b h same is_d is_s any is so_far =
     ∙ any in
     ap (λ w. w ++ entries_behind (zip (take (k + 1) ds) (take (k + 1) ss)) rest) is
     ∙ ap (λ w. (out ++ cond b [] (entry_of (d, s) rest ∷ [])) ++ entries_behind w rest)
-      (zip_take ds ss k d s h same is_d is_s)
+    (zip_take ds ss k d s h same is_d is_s)
     ∙ sym (table_step out (d, s) before rest b found)
     ∙ ap (λ w. out ++ entries_behind before w) (sym (zip_drop ds ss k d s h same is_d is_s))
     ∙ so_far

@@ -1,4 +1,5 @@
 pub mod EntryLemmas
+pub mod EsrtLemmas
 pub mod Growing
 pub mod ResultLemmas
 pub mod UnitLemmas

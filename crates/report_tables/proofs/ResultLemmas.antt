@@ -27,9 +27,9 @@ fmp_size p =
     parts_size (bytes_of 2 1) p.type_id.bytes (unit_bytes p.file) (unit_bytes p.target)
     p.payload p.index
     ∙ ap (λ n. 4 + length p.type_id.bytes + n + length (unit_bytes p.target))
-      (length-unit_bytes p.file)
+    (length-unit_bytes p.file)
     ∙ ap (λ n. 4 + length p.type_id.bytes + (2 * length p.file + 2) + n)
-      (length-unit_bytes p.target)
+    (length-unit_bytes p.target)
 
 pub size_with : (v : ResultVar) (p : FmpResult) → v.fmp ≡ Some p
     → result_size v
@@ -89,7 +89,7 @@ all_rows bytes at end f =
     (text_rows (drop 68 bytes)
     ++ (text_rows (drop (target_place bytes) bytes) ++ fmp_end_rows bytes)) f.fields
     ∙ first-none (text_rows (drop 68 bytes))
-      (text_rows (drop (target_place bytes) bytes) ++ fmp_end_rows bytes) f.file
+    (text_rows (drop (target_place bytes) bytes) ++ fmp_end_rows bytes) f.file
     ∙ first-none (text_rows (drop (target_place bytes) bytes)) (fmp_end_rows bytes) target
 
 pub more_behind : (bytes : List ℕ) (at end : ℕ) → Found bytes at end → length bytes ≢ end

@@ -36,7 +36,7 @@ front_at bytes k h =
     let next : 2 * k + 2 ≡ 2 * (k + 1) = omega arith in
     front_step (drop (2 * k) bytes) (omega (arith, length-drop (2 * k) bytes))
     ∙ ap (λ rest. unit_then (number_at bytes (2 * k) 2) (units_at_front rest))
-      (drop-drop 2 (2 * k) bytes ∙ ap (λ n. drop n bytes) next)
+    (drop-drop 2 (2 * k) bytes ∙ ap (λ n. drop n bytes) next)
 
 -- ---- counting the units before a zero
 
@@ -128,6 +128,7 @@ ended (a ∷ b ∷ rest) n e =
   where
     first : ℕ
     first = number (a ∷ b ∷ [])
+
     by_unit : (z : Bool) → (first == 0) ≡ z → (more : Option (List ℕ))
         → units_at_front rest ≡ more
         → option_map length (cond z (Some []) (option_map (λ us. first ∷ us) more)) ≡ Some n

@@ -3,8 +3,8 @@
 -- FwVersion, LowestSupportedFwVersion, CapsuleFlags, LastAttemptVersion and LastAttemptStatus in 4
 -- bytes each.
 use Rattle.std.specs.Prelude.{◌≡◌, ℕ, ◌+◌, ◌*◌, ◌^◌, ◌<◌, ◌==◌, not, nat_lt, List, [], ◌∷◌, ◌++◌}
-use Rattle.std.specs.Prelude.{length, map, flat_map, All, Option, None, Some}
-use Rattle.std.specs.List.{range_with_len}
+use Rattle.std.specs.Prelude.{length, map, flat_map, Option, None, Some}
+use Rattle.std.specs.List.{AllByRecursion, range_with_len}
 use Rattle.cu_base.specs.Fields.{field, number_at, bytes_of}
 use Rattle.cu_base.specs.Refusals.{Row, row}
 use Rattle.report_tables.specs.declared.esrt.EsrtEntry.{EsrtEntry}
@@ -67,7 +67,7 @@ pub record IsEntry (e : EsrtEntry) : Type 0 where
 
 -- entries of a table, each with fields of their width, whose number has 4 bytes
 pub record AreEntries (entries : List EsrtEntry) : Type 0 where
-  pub each : All IsEntry entries
+  pub each : AllByRecursion IsEntry entries
   pub count : length entries < 2 ^ 32
 
 -- the refusal that a fault tells; want of memory is none

@@ -5,6 +5,7 @@
 -- CapsuleFileName and CapsuleTarget.
 use Rattle.std.specs.Prelude.{◌≡◌, ℕ, ◌+◌, ◌<◌, ◌^◌, ◌==◌, not, nat_lt, List, [], ◌∷◌, ◌++◌, length}
 use Rattle.std.specs.Prelude.{drop, slice_index, All, IfSome, Option, None, Some, if◌then◌else◌}
+use Rattle.std.specs.Prelude.{Bool}
 use Rattle.cu_base.specs.Fields.{field, number_at, bytes_of}
 use Rattle.cu_base.specs.Refusals.{Row, row}
 use Rattle.cu_base.specs.Times.{time_bytes, time_at_front}
@@ -95,12 +96,23 @@ result_fields bytes = record {
   fmp = if length bytes == 48 then None else Some (fmp_fields bytes);
 }
 
--- the texts of a part on a payload are ASCII without zero
-pub record HasPlainTexts (p : FmpResult) : Type 0 where
+-- its size has 4 bytes
+abbrev pub is_writable : ResultVar → Bool
+is_writable v = nat_lt (result_size v) (2 ^ 32)
+
+-- each field of a part on a payload has its width, and its texts are ASCII without zero
+pub record IsFmpResult (p : FmpResult) : Type 0 where
+  pub payload : p.payload < 2 ^ 8
+  pub index : p.index < 2 ^ 8
+  pub type_id : length p.type_id.bytes ≡ 16
   pub file : All IsPlain p.file
   pub target : All IsPlain p.target
 
--- a result that has a layout: its texts are ASCII without zero, and its size has 4 bytes
-pub record IsWritable (v : ResultVar) : Type 0 where
-  pub texts : IfSome v.fmp HasPlainTexts
+-- each field of a result has its width; its moment is the one that the bytes of it hold, as that of
+-- every moment is
+pub record IsResult (v : ResultVar) : Type 0 where
+  pub guid : length v.guid.bytes ≡ 16
+  pub time : time_at_front (time_bytes v.time) ≡ v.time
+  pub status : v.status.code < 2 ^ 64
+  pub fmp : IfSome v.fmp IsFmpResult
   pub size : result_size v < 2 ^ 32

@@ -89,7 +89,7 @@ fn join(entry: EsrtEntry, state: &DevState) -> EsrtEntry
 fn told_attempt(entry: &EsrtEntry, state: &DevState) -> (u32, u32)
     ensures value { (rest : List (ℕ × ℕ)) → told_attempt result rest
         ≡ told_attempt (entry.now.last_version, entry.now.last_status)
-          (attempt_of state.now ∷ rest) }
+        (attempt_of state.now ∷ rest) }
 {
     if entry.last_status == 0 && state.last_status != 0 {
         (state.last_version, state.last_status)

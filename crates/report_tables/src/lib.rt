@@ -8,6 +8,7 @@
 mod entries;
 mod esrt;
 mod faults;
+pub mod laws;
 mod names;
 mod result;
 mod result_bytes;

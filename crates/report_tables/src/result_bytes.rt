@@ -1,9 +1,9 @@
 //! The bytes of a result variable.
 
-ghost use Rattle.std.specs.Prelude.{◌≡◌, ◌≤◌, ◌<◌, ◌+◌, ◌^◌, ◌++◌, length, drop, IfOk, OnOk, OnErr};
+ghost use Rattle.std.specs.Prelude.{◌≡◌, ◌≤◌, ◌<◌, ◌+◌, ◌^◌, ◌++◌, length, drop, IfOk, OnOk, IsTrue};
 ghost use Rattle.cu_base.specs.Refusals.{AnswersBy, first_refusal};
 ghost use Rattle.report_tables.specs.Esrt.{told_fault};
-ghost use Rattle.report_tables.specs.Results.{IsWritable, fmp_bytes, fmp_fields, fmp_rows};
+ghost use Rattle.report_tables.specs.Results.{is_writable, fmp_bytes, fmp_fields, fmp_rows};
 ghost use Rattle.report_tables.specs.Results.{fmp_field_rows};
 ghost use Rattle.report_tables.specs.Results.{result_bytes, result_fields, result_rows};
 ghost use Rattle.report_tables.specs.Results.{result_size};
@@ -20,10 +20,34 @@ use std::alloc::Global;
 /// The place of UpdateImageTypeId.
 const TYPE_ID_AT: usize = 52;
 
+/// A text of so many bytes has no layout in a result.
+const TOO_LONG: usize = 0x8000_0000;
+
+/// A result of so many bytes has no layout.
+const TOO_LARGE: usize = 0x1_0000_0000;
+
 impl ResultVar {
+    /// Whether the result has a layout: it takes fewer than 2^32 bytes.
+    pub fn is_writable(&self) -> bool
+        ensures value { result ≡ is_writable self.now }
+    {
+        match &self.fmp {
+            None => true,
+            Some(fmp) => {
+                let file = fmp.file.as_str().len();
+                let target = fmp.target.as_str().len();
+                let type_id: &[u8] = &fmp.type_id.bytes;
+                if file.max(target) >= TOO_LONG {
+                    return false;
+                }
+                TYPE_ID_AT + type_id.len() + 2 * (file + target + 2) < TOO_LARGE
+            }
+        }
+    }
+
     /// The bytes of the result, all numbers little-endian. Reserved is 0.
     pub fn write(&self, alloc: Global) -> Result<Blob, NoMemory>
-        requires writable { IsWritable self.now }
+        requires writable { IsTrue (is_writable self.now) }
         ensures value { IfOk result (λ blob. blob ≡ result_bytes self.now) }
     {
         let size = self.size();
@@ -40,7 +64,7 @@ impl ResultVar {
 
     /// How many bytes the result takes.
     fn size(&self) -> u32
-        requires writable { IsWritable self.now }
+        requires writable { IsTrue (is_writable self.now) }
         ensures value { result ≡ result_size self.now }
     {
         match &self.fmp {

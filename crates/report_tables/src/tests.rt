@@ -2,10 +2,11 @@
 //! call with ample memory.
 
 use crate::{
-    EsrtEntry, Esrt, FmpResult, ReportFault, ResultVar, esrt_of, next_number, result_name,
+    Esrt, EsrtEntry, FmpResult, ReportFault, ResultVar, esrt_of, next_number, result_name,
 };
-use bench_model::{Board, Device, Devices};
+use bench_model::{Board, Device, Devices, Digests, is_device_name};
 use cu_base::{DevState, EfiStatus, EfiTime, Guid, Items, NoMemory, Text};
+use std::process::Abort;
 use std::test::Fail;
 
 /// aaaaaaaa-0000-0000-0000-000000000001 and bbbbbbbb-0000-0000-0000-000000000002 as they stand in
@@ -127,6 +128,7 @@ fn a_result_is_written_and_read(rt: HostRuntime) -> Result<(), Fail> {
             target: Text::from_str(rt.alloc(), "sys")?,
         }),
     };
+    assert!(rt; result.is_writable());
     assert_eq!(rt; result.write(rt.alloc())?.as_slice(), &RESULT[..]);
     let mut reserved = RESULT;
     reserved[4] = 7;
@@ -187,4 +189,188 @@ fn the_first_wrong_field_of_a_result_is_told(rt: HostRuntime) {
         bytes[at] = byte;
         assert_eq!(rt; result_refusal(&rt, &bytes), Some(why), "{at}");
     }
+}
+
+/// A board of a device for each of these types, in order, with instances from 0.
+fn board(rt: &(impl Abort + AllocGlobal), types: &[Guid]) -> Result<Board, NoMemory> {
+    let alloc = rt.alloc();
+    let names = [
+        "d0", "d1", "d2", "d3", "d4", "d5", "d6", "d7", "d8", "d9", "da", "db", "dc", "dd", "de",
+        "df",
+    ];
+    let mut devices = Devices::new(alloc);
+    for (name, type_id) in names.iter().zip(types) {
+        let instance = devices.len() as u64;
+        assert!(rt; is_device_name(name) && instance < 16);
+        assert!(rt; !devices.has_name(name) && !devices.has_triple(type_id, 1, instance));
+        devices.push(Device {
+            name: Text::from_str(alloc, name)?,
+            type_id: *type_id,
+            index: 1,
+            instance,
+            fw_type: if instance == 0 { 1 } else { 2 },
+            capacity: 64,
+            version: 9,
+            floor: 9,
+            flags: instance as u32,
+        })?;
+    }
+    let mut capacities = 0u64;
+    let list = devices.as_slice();
+    for device in list {
+        assert!(rt; capacities <= 1024);
+        capacities += u64::from(device.capacity);
+    }
+    assert!(rt; capacities <= 1024);
+    assert!(rt; !devices.is_empty() && devices.len() <= 16);
+    Ok(Board::new(65_536, 2, false, 15, Digests::new(alloc), devices))
+}
+
+/// A state of a device.
+fn state(version: u32, floor: u32, last_version: u32, last_status: u32) -> DevState {
+    DevState {
+        version,
+        floor,
+        last_version,
+        last_status,
+    }
+}
+
+/// The table of devices of these types in these states.
+fn table(
+    rt: &(impl Abort + AllocGlobal),
+    types: &[Guid],
+    states: &[DevState],
+) -> Result<Esrt, NoMemory> {
+    let board = board(rt, types)?;
+    assert!(rt; board.devices().len() == states.len());
+    esrt_of(rt.alloc(), &board, states)
+}
+
+#[test]
+fn one_type_has_one_entry(rt: HostRuntime) -> Result<(), Fail> {
+    let types = [CONTROLLER, SYSTEM, CONTROLLER];
+    let states = [state(8, 5, 8, 0), state(4, 3, 4, 0), state(7, 6, 2, 3)];
+    let esrt = table(&rt, &types, &states)?;
+    let entries = [
+        EsrtEntry {
+            class: CONTROLLER,
+            fw_type: 1,
+            version: 7,
+            lowest: 6,
+            flags: 0,
+            last_version: 2,
+            last_status: 3,
+        },
+        EsrtEntry {
+            class: SYSTEM,
+            fw_type: 2,
+            version: 4,
+            lowest: 3,
+            flags: 1,
+            last_version: 4,
+            last_status: 0,
+        },
+    ];
+    assert_eq!(rt; esrt.entries.as_slice(), &entries[..]);
+    Ok(())
+}
+
+#[test]
+fn sixteen_devices_of_one_type_have_one_entry(rt: HostRuntime) -> Result<(), Fail> {
+    let mut states = [state(9, 1, 5, 0); 16];
+    states[7] = state(3, 1, 6, 4);
+    states[12] = state(9, 8, 7, 5);
+    let esrt = table(&rt, &[SYSTEM; 16], &states)?;
+    let entry = EsrtEntry {
+        class: SYSTEM,
+        fw_type: 1,
+        version: 3,
+        lowest: 8,
+        flags: 0,
+        last_version: 6,
+        last_status: 4,
+    };
+    assert_eq!(rt; esrt.entries.as_slice(), &[entry][..]);
+    Ok(())
+}
+
+#[test]
+fn results_are_numbered_round_and_named(rt: HostRuntime) -> Result<(), Fail> {
+    let rows = [
+        (None, 3, 0),
+        (Some(0), 3, 1),
+        (Some(2), 3, 3),
+        (Some(3), 3, 0),
+        (Some(4), 3, 0),
+        (Some(0), 0, 0),
+        (Some(0xFFFE), 0xFFFF, 0xFFFF),
+        (Some(0xFFFF), 0xFFFF, 0),
+    ];
+    for (last, most, next) in rows {
+        assert_eq!(rt; next_number(last, most), next);
+    }
+    let names = [
+        (0, "Capsule0000"),
+        (0x1A2F, "Capsule1A2F"),
+        (0xFFFF, "CapsuleFFFF"),
+    ];
+    for (number, name) in names {
+        assert_eq!(rt; result_name(rt.alloc(), number)?.as_str(), name);
+    }
+    Ok(())
+}
+
+#[test]
+fn texts_of_a_result_may_be_empty_or_long(rt: HostRuntime) -> Result<(), Fail> {
+    let long = "0123456789012345678901234567890123456789";
+    for (file, target, size) in [("", "", 72), (long, "sys", 158), ("", long, 152)] {
+        let result = ResultVar {
+            guid: FMP_CAPSULE,
+            time: EfiTime::from_text("2000-01-01T00:00:00")?,
+            status: EfiStatus::ABORTED,
+            fmp: Some(FmpResult {
+                payload: 9,
+                index: 8,
+                type_id: CONTROLLER,
+                file: Text::from_str(rt.alloc(), file)?,
+                target: Text::from_str(rt.alloc(), target)?,
+            }),
+        };
+        assert!(rt; result.is_writable());
+        let written = result.write(rt.alloc())?;
+        assert_eq!(rt; written.as_slice().len(), size);
+        let read = ResultVar::read(rt.alloc(), written.as_slice())?;
+        match read.fmp {
+            None => assert!(rt; false, "the part on the payload is there"),
+            Some(fmp) => {
+                assert_eq!(rt; fmp.file.as_str(), file);
+                assert_eq!(rt; fmp.target.as_str(), target);
+            }
+        }
+    }
+    Ok(())
+}
+
+#[test]
+fn refusals_say_what_is_wrong(rt: HostRuntime) -> Result<(), Fail> {
+    let rows = [
+        (ReportFault::Short, "the bytes end before the fields do"),
+        (
+            ReportFault::BadCount,
+            "FwResourceCount is not FwResourceCountMax",
+        ),
+        (ReportFault::BadVersion, "the version is not 1"),
+        (
+            ReportFault::BadSize,
+            "the length is not the one that the fields tell",
+        ),
+        (ReportFault::NoTerminator, "a text has no zero at its end"),
+        (ReportFault::NotAscii, "a text has a character above 0x7F"),
+        (ReportFault::Memory, "out of memory"),
+    ];
+    for (fault, text) in rows {
+        assert_eq!(rt; format!(in rt.alloc(); "{fault}")?.as_str(), text);
+    }
+    Ok(())
 }

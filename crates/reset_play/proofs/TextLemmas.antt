@@ -8,13 +8,6 @@ use Rattle.reference_machine.specs.declared.trace.Entry.{Entry}
 use Rattle.reset_play.specs.Texts.{entries_text}
 use Rattle.reference_machine.specs.TraceValues.{answer_value}
 
--- three pieces in turn
-pub three : (o a b d x y z : List ℕ) → x ≡ o ++ a → y ≡ x ++ b → z ≡ y ++ d
-    → z ≡ o ++ (a ++ (b ++ d))
-three o a b d x y z p q r =
-    r ∙ ap (λ w. w ++ d) (q ∙ ap (λ w. w ++ b) p) ∙ append_assoc (o ++ a) b d
-    ∙ append_assoc o a (b ++ d)
-
 -- what is left of a list begins with the item at its place
 drop_item : {X : Type 0} (xs : List X) (i : ℕ) (x : X) → i < length xs → x ≡ get_or xs i x
     → drop i xs ≡ x ∷ drop (i + 1) xs

@@ -1,17 +1,17 @@
 -- The text of a trace. Each event has one line, and the lines of a boot and of what is shown stand
 -- before it, with two spaces in front.
-use Rattle.std.specs.Prelude.{ℕ, true, false, ◌+◌, ◌/◌, ◌%◌, ◌^◌, ◌==◌, List, [], ◌∷◌, ◌++◌, length}
+use Rattle.std.specs.Prelude.{ℕ, false, ◌+◌, ◌%◌, ◌^◌, ◌==◌, List, [], ◌∷◌, ◌++◌, length}
 use Rattle.std.specs.Prelude.{flat_map, slice_get, codes, decimal, Option, None, Some, option_map}
 use Rattle.std.specs.Prelude.{unwrap_or, if◌then◌else◌}
-use Rattle.std.specs.Fmt.{digit_glyph, radix_digits}
+use Rattle.std.specs.Fmt.{radix_digits}
 use Rattle.cu_base.specs.declared.status.EfiStatus.{EfiStatus}
 use Rattle.cu_base.specs.declared.ticket.Ticket.{Ticket}
 use Rattle.cu_base.specs.Guids.{guid_text}
 use Rattle.reference_machine.specs.declared.event.Event.{Event}
 use Rattle.reference_machine.specs.declared.event.Event.TheVariants as events
 use Rattle.reference_machine.specs.declared.snapshot.CapsuleResult.{CapsuleResult}
-use Rattle.reference_machine.specs.declared.snapshot.EsrtEntry.{EsrtEntry}
-use Rattle.reference_machine.specs.declared.snapshot.FmpResult.{FmpResult}
+use Rattle.report_tables.specs.declared.esrt.EsrtEntry.{EsrtEntry}
+use Rattle.report_tables.specs.declared.result.FmpResult.{FmpResult}
 use Rattle.reference_machine.specs.declared.snapshot.FolderFile.{FolderFile}
 use Rattle.reference_machine.specs.declared.snapshot.StagedPair.{StagedPair}
 use Rattle.reference_machine.specs.declared.trace.BootEnd.{BootEnd}
@@ -20,6 +20,7 @@ use Rattle.reference_machine.specs.declared.unit.Kind.{Kind}
 use Rattle.reference_machine.specs.declared.unit.Kind.TheVariants.{Try, Heal, Skip, NoTarget, Bad}
 use Rattle.reference_machine.specs.declared.unit.UnitLine.{UnitLine}
 use Rattle.bench_model.specs.Boards.{BoardValue}
+use Rattle.report_tables.specs.Names.{result_name}
 use Rattle.reference_machine.specs.TraceValues.{AnswerValue, SnapshotValue}
 use Rattle.reference_machine.specs.TraceValues.AnswerValue.{Done, Serial, FlashFault, VolumeFault}
 use Rattle.reference_machine.specs.TraceValues.AnswerValue.{NoBank, Full, Wraps, Invalid}
@@ -40,15 +41,6 @@ indented first words = codes "  " ++ line first words
 -- what stands for something that is not there
 abbrev pub dash : List ℕ
 dash = codes "-"
-
--- a byte in two upper-case hexadecimal digits
-abbrev pub hex_pair : ℕ → List ℕ
-hex_pair n = digit_glyph true (n / 16) ∷ digit_glyph true (n % 16) ∷ []
-
--- the name of a result variable: `Capsule` and four upper-case hexadecimal digits (UEFI 2.10,
--- 8.5.6)
-abbrev pub result_name : ℕ → List ℕ
-result_name n = codes "Capsule" ++ hex_pair (n / 256) ++ hex_pair (n % 256)
 
 -- the number of an EFI_STATUS without its top bit
 abbrev pub status_text : EfiStatus → List ℕ
@@ -133,7 +125,8 @@ fmp_words (Some p) = decimal p.payload ∷ decimal p.index ∷ or_dash p.file �
 abbrev pub result_text : CapsuleResult → List ℕ
 result_text r =
     indented (codes "result")
-    (result_name r.number ∷ status_text r.status ∷ guid_text r.guid ∷ fmp_words r.fmp)
+    (result_name r.number ∷ status_text r.variable.status ∷ guid_text r.variable.guid
+    ∷ fmp_words r.variable.fmp)
 
 -- the line of the last result
 abbrev pub last_text : Option ℕ → List ℕ

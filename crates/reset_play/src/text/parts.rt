@@ -1,12 +1,14 @@
 //! The words of a line. Each part but the first has a space before it.
 
-ghost use Rattle.std.specs.Prelude.{◌≡◌, ◌<◌, true, false, [], ◌∷◌, ◌++◌, decimal, flat_map, OnOk};
-ghost use Rattle.std.specs.Fmt.{digit_glyph, radix_digits};
+ghost use Rattle.std.specs.Prelude.{◌≡◌, false, ◌∷◌, ◌++◌, decimal, flat_map, OnOk};
+ghost use Rattle.std.specs.Fmt.{radix_digits};
 ghost use Rattle.cu_base.specs.Guids.{guid_text};
-ghost use Rattle.reset_play.specs.Texts.{hex_pair, result_name, status_text, or_dash};
+ghost use Rattle.report_tables.specs.Names.{result_name};
+ghost use Rattle.reset_play.specs.Texts.{status_text, or_dash};
 
 use cu_base::{EfiStatus, Guid, NoMemory, Text};
 use itoa::Buffer;
+use report_tables::push_result_name;
 use std::alloc::Global;
 
 pub fn push_number(out: &mut Text, n: u64) -> Result<(), NoMemory>
@@ -54,43 +56,9 @@ pub fn push_status_part(out: &mut Text, status: EfiStatus) -> Result<(), NoMemor
 pub fn push_result_part(out: &mut Text, number: u16) -> Result<(), NoMemory>
     ensures { OnOk result (out.new ≡ out.old ++ 32 ∷ result_name number) }
 {
-    out.push_str(" Capsule")?;
-    push_hex_pair(out, number / 256)?;
-    push_hex_pair(out, number % 256)?;
+    out.push_str(" ")?;
+    push_result_name(out, number)?;
     Ok(())
-}
-
-fn push_hex_pair(out: &mut Text, byte: u16) -> Result<(), NoMemory>
-    requires { byte < 256 }
-    ensures { OnOk result (out.new ≡ out.old ++ hex_pair byte) }
-{
-    out.push_str(hex_digit(byte / 16))?;
-    out.push_str(hex_digit(byte % 16))?;
-    Ok(())
-}
-
-fn hex_digit(digit: u16) -> &'static str
-    requires { digit < 16 }
-    ensures { result.now ≡ digit_glyph true digit ∷ [] }
-{
-    match digit {
-        0 => "0",
-        1 => "1",
-        2 => "2",
-        3 => "3",
-        4 => "4",
-        5 => "5",
-        6 => "6",
-        7 => "7",
-        8 => "8",
-        9 => "9",
-        10 => "A",
-        11 => "B",
-        12 => "C",
-        13 => "D",
-        14 => "E",
-        _ => "F",
-    }
 }
 
 /// A number in lower-case hexadecimal.

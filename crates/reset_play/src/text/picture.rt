@@ -67,9 +67,10 @@ fn push_result_line(out: &mut Text, alloc: Global, shown: &CapsuleResult) -> Res
 {
     out.push_str("  result")?;
     push_result_part(out, shown.number)?;
-    push_status_part(out, shown.status)?;
-    push_guid_part(out, alloc, &shown.guid)?;
-    push_fmp_parts(out, &shown.fmp)?;
+    let variable = &shown.variable;
+    push_status_part(out, variable.status)?;
+    push_guid_part(out, alloc, &variable.guid)?;
+    push_fmp_parts(out, &variable.fmp)?;
     out.push_str("\n")?;
     Ok(())
 }

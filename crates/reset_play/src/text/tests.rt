@@ -128,14 +128,13 @@ fn shown(alloc: Global, rt: &impl Abort) -> Answer {
             file: text(alloc, rt, "sys.cap"),
             target: text(alloc, rt, target),
         };
-        let variable = CapsuleResult {
-            number,
+        let variable = ResultVar {
             guid: Guid { bytes: FMP },
             time,
             status: EfiStatus { code: 0 },
             fmp: Some(fmp),
         };
-        assert!(rt; results.push(variable).is_ok());
+        assert!(rt; results.push(CapsuleResult { number, variable }).is_ok());
     }
     let mut files = Items::new(alloc);
     let file = FolderFile {

@@ -19,12 +19,12 @@ loop-k-preserved c =
       | then-is_same_type w ↦
           ap (λ e. entry_with e (left_of_type first rest states (k + 1))) w.entry-is
           ∙ joined c.loop-k.entry w.join-entry.result first rest states k device state split
-            (sym c.is_same_type.ensures.value ∙ w.if-is_same_type.true)
-            (w.join-entry.ensures.value device)
+          (sym c.is_same_type.ensures.value ∙ w.if-is_same_type.true)
+          (w.join-entry.ensures.value device)
           ∙ c.loop-k.invariant
       | else-is_same_type w ↦
           ap (λ e. entry_with e (left_of_type first rest states (k + 1))) w.entry-is
           ∙ passed_by c.loop-k.entry first rest states k device state split
-            (sym c.is_same_type.ensures.value ∙ w.if-is_same_type.false)
+          (sym c.is_same_type.ensures.value ∙ w.if-is_same_type.false)
           ∙ c.loop-k.invariant
     ]

@@ -24,7 +24,7 @@ loop-k-preserved c =
     (sym c.has_type.ensures.value ∙ c.if-has_type.false)
     (c.in_ok-push.ensures.ok
     ∙ ap (λ e. c.loop-k.entries.items ++ e ∷ [])
-      (c.entry_of.ensures.value
-      ∙ ap (entry_of (c.index-devices-k.result, get_or c.args.states.now c.loop-k.k no_state))
-        (rests_are c.devices-devices.result.now c.args.states.now (c.loop-k.k + 1))))
+    (c.entry_of.ensures.value
+    ∙ ap (entry_of (c.index-devices-k.result, get_or c.args.states.now c.loop-k.k no_state))
+    (rests_are c.devices-devices.result.now c.args.states.now (c.loop-k.k + 1))))
     c.loop-k.invariant

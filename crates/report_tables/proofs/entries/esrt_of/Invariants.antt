@@ -8,5 +8,5 @@ abbrev pub invariant-loop-k : goal.invariant-loop-k
 invariant-loop-k l =
     l.entries.items
     ++ entries_behind (zip (take l.k l.devices) (take l.k l.states))
-      (zip (drop l.k l.devices) (drop l.k l.states))
+    (zip (drop l.k l.devices) (drop l.k l.states))
     ≡ entries_of l.board l.states

@@ -9,8 +9,8 @@ loop-k-preserved c =
     c.in_ok-push.ensures.ok
     ∙ ap (λ items. items ++ c.read_entry.result ∷ []) c.loop-k.invariant
     ∙ ap
-      (λ e. map (λ k. entry_at c.args.bytes.now (16 + 40 * k)) (range_with_len 0 c.loop-k.k)
-      ++ e ∷ [])
-      c.read_entry.ensures.value
+    (λ e. map (λ k. entry_at c.args.bytes.now (16 + 40 * k)) (range_with_len 0 c.loop-k.k)
+    ++ e ∷ [])
+    c.read_entry.ensures.value
     ∙ sym (map-range_with_len_more (λ k. entry_at c.args.bytes.now (16 + 40 * k)) 0 c.loop-k.k
-      c.loop-k.k (omega arith))
+    c.loop-k.k (omega arith))

@@ -30,7 +30,7 @@ returns-in_err-target-clause-refused c =
     let place : 68 + 2 * length c.as_str.result.now + 2 ≡ target_place bytes =
     omega (arith, ap length (c.as_str.ensures ∙ c.in_ok-file.ensures.value)) in
     let told : IsTold (told_fault c.in_err-target.field-0.0)
-        (first_refusal (text_rows (drop (target_place bytes) bytes))) =
+    (first_refusal (text_rows (drop (target_place bytes) bytes))) =
     subst
     (λ n. IsTold (told_fault c.in_err-target.field-0.0) (first_refusal (text_rows (drop n bytes))))
     place c.in_err-target.ensures.refused in

@@ -17,9 +17,13 @@ returns-then-u16_at-gt127 c =
     record {
       value = sym (c.loop-k.invariant
           ∙ ascii_stop (text_at_front c.args.bytes.now) c.loop-k.k
-            (omega (arith, is.count, c.loop-k-test.true))
-            (omega (arith, is.unit c.loop-k.k c.loop-k-test.true, c.u16_at.ensures,
-              c.if-u16_at-gt127.true)));
+          (omega (arith, is.count, c.loop-k-test.true))
+          (omega (
+            arith,
+            is.unit c.loop-k.k c.loop-k-test.true,
+            c.u16_at.ensures,
+            c.if-u16_at-gt127.true,
+          )));
     }
 
 pub loop-k-preserved : goal.loop-k-preserved
@@ -27,9 +31,13 @@ loop-k-preserved c =
     let is = ended c.args.bytes.now c.args.count c.requires.ended in
     c.loop-k.invariant
     ∙ ascii_step (text_at_front c.args.bytes.now) c.loop-k.k
-      (omega (arith, is.count, c.loop-k-test.true))
-      (omega (arith, is.unit c.loop-k.k c.loop-k-test.true, c.u16_at.ensures,
-        c.if-u16_at-gt127.false))
+    (omega (arith, is.count, c.loop-k-test.true))
+    (omega (
+      arith,
+      is.unit c.loop-k.k c.loop-k-test.true,
+      c.u16_at.ensures,
+      c.if-u16_at-gt127.false,
+    ))
 
 pub returns : goal.returns
 returns c =
@@ -37,5 +45,5 @@ returns c =
     record {
       value = sym (c.loop-k.invariant
           ∙ ascii_done (text_at_front c.args.bytes.now) c.loop-k.k
-            (omega (arith, is.count, c.loop-k-test.false)));
+          (omega (arith, is.count, c.loop-k-test.false)));
     }

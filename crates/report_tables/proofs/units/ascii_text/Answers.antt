@@ -26,8 +26,8 @@ loop-k-preserved c =
     c.in_ok-push_slice.ensures.ok
     ∙ ap (λ xs. xs ++ get_or c.args.bytes.now (2 * k) 0 ∷ []) c.loop-k.invariant
     ∙ ap (λ b. take k text ++ b ∷ [])
-      (low_byte c.args.bytes.now k (get_or text k 0) room
-      (sym (is.unit k c.loop-k-test.true)) (ascii_at text k c.requires.ascii here))
+    (low_byte c.args.bytes.now k (get_or text k 0) room
+    (sym (is.unit k c.loop-k-test.true)) (ascii_at text k c.requires.ascii here))
     ∙ sym (take_more text k 0 here)
 
 pub unreachable-requires : goal.unreachable-requires

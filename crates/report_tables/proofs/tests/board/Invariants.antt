@@ -1,0 +1,7 @@
+use Rattle.std.proofs.Common.{◌≡◌, take}
+use Rattle.bench_model.specs.Devices.{capacity_of}
+use Rattle.report_tables.proofs.tests.board.Given as goal
+
+-- the capacities so far
+abbrev pub invariant-loop-device : goal.invariant-loop-device
+invariant-loop-device g l = l.capacities ≡ capacity_of (take l.device-index l.list)
