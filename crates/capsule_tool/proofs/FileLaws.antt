@@ -5,7 +5,7 @@ use Rattle.std.proofs.Common.{sym, ap, subst, ◌∙◌, arith}
 use Rattle.std.specs.Prelude.{Option, None, Some, Result, Ok, Err, IsErrOf}
 use Rattle.std.specs.Io.KnownBytes.{IsAtEnd}
 use Rattle.std.proofs.lemmas.Bool.{cond-true, cond-false, ltb-false, lt-ltb, or_parts}
-use Rattle.std.proofs.lemmas.List.{take_all, take_at, take-take, drop-take, drop_at, drop-drop}
+use Rattle.std.proofs.lemmas.List.{take_at, take-take, drop-take, drop_at, drop-drop}
 use Rattle.cu_base.specs.Causes.{Rose}
 use Rattle.cu_base.specs.Fields.{field}
 use Rattle.cu_base.specs.Refusals.{first_refusal}

@@ -1,6 +1,6 @@
 -- First faults: of tables one behind another, and along a list that `toml` read.
 use Rattle.std.proofs.Common.{◌≡◌, ℕ, ◌+◌, ◌<◌, arith, List, [], ◌∷◌, ◌++◌, length, get_or, drop}
-use Rattle.std.proofs.Common.{◌-◌, map, Option, None, Some, refl, sym, ◌∙◌}
+use Rattle.std.proofs.Common.{◌-◌, map, Option, None, Some, refl, ◌∙◌}
 use Rattle.std.specs.List.{flat_map}
 use Rattle.std.proofs.lemmas.List.{drop_more}
 use Rattle.std.proofs.lemmas.List.Sums.{sum_by-append}
@@ -23,7 +23,7 @@ use Rattle.recipe_files.specs.Devices.{Adds, device_of, device_tables, entries_t
 use Rattle.recipe_files.specs.Devices.{entry_rows}
 use Rattle.recipe_files.specs.Devices.{factory_tables, factory_test, room_test, rows_or_kind}
 use Rattle.recipe_files.specs.Devices.{table_test}
-use Rattle.recipe_files.specs.Faults.{fault_row, one_table}
+use Rattle.recipe_files.specs.Faults.{fault_row}
 use Rattle.recipe_files.specs.Tests.{digest_rows, digest_test, digests_test, key_test}
 use Rattle.recipe_files.specs.Values.{entries_in, guid_in, number_in, text_in}
 

@@ -1,4 +1,4 @@
-use Rattle.std.proofs.Common.{sym, ◌∙◌, arith}
+use Rattle.std.proofs.Common.{sym, ◌∙◌}
 use Rattle.std.proofs.lemmas.Result.{err_from_is_err_and}
 use Rattle.capsule_tool.proofs.FileLaws.{file_stopped, file_scanned, file_plain, plain_guid}
 use Rattle.capsule_tool.proofs.FileLaws.{no_header}
