@@ -7,17 +7,14 @@ use Rattle.std.proofs.lemmas.List.{take_all, take_at, take-take, drop-take, leng
 use Rattle.std.proofs.lemmas.List.{length-append}
 use Rattle.cu_base.specs.Fields.{number, field, number_at, bytes_of}
 use Rattle.cu_base.specs.Refusals.{Row, row_at, first_refusal}
-use Rattle.fmp_headers.specs.CapsuleHeader.{header_size, image_size, is_short, has_bad_header_size}
-use Rattle.fmp_headers.specs.CapsuleHeader.{is_above_limit}
+use Rattle.fmp_headers.specs.CapsuleHeader.{header_size, image_size, is_short, capsule_header}
 use Rattle.fmp_headers.specs.ImageHeader.{image_version, is_image_version, image_header_size}
 use Rattle.fmp_headers.specs.ImageHeader.{image_header_rows}
 use Rattle.cu_base.proofs.Fields.{length-bytes_of}
 use Rattle.capsule_grammar.specs.Refusals.{driver_count, image_count, item_count, list_end, offset}
 use Rattle.capsule_grammar.specs.Refusals.{start_of, bound, image_parts_size, image_rows}
-use Rattle.capsule_grammar.specs.Refusals.{capsule_rows}
 use Rattle.capsule_grammar.specs.declared.refusal.Why.{Why}
-use Rattle.capsule_grammar.specs.declared.refusal.Why.TheVariants.{Short, BadHeaderSize}
-use Rattle.capsule_grammar.specs.declared.refusal.Why.TheVariants.{BadImageSize, BadImageVersion}
+use Rattle.capsule_grammar.specs.declared.refusal.Why.TheVariants.{Short, BadImageVersion}
 use Rattle.capsule_grammar.specs.declared.refusal.Why.TheVariants.{ImageOutside}
 use Rattle.capsule_grammar.specs.Accepted.{AreBounds}
 use Rattle.capsule_grammar.specs.Fronts.{Begins}
@@ -115,22 +112,20 @@ shorter_least {front} {bytes} least n b there low =
 
 -- ---- the capsule header
 
--- its rows, by the head and the length of the whole
-abbrev pub capsule_rows_by : List ℕ → ℕ → List (Row (ℕ × Why))
-capsule_rows_by head size =
-    row_at (is_short head) 0 Short
-    ∷ row_at (has_bad_header_size head) 16 BadHeaderSize
-    ∷ row_at (is_above_limit head || ltb size (image_size head)) 24 BadImageSize
-    ∷ []
-
-pub capsule_refusal_same : {head bytes : List ℕ} {size : ℕ} → Begins head size bytes
-    → min 28 size ≤ length head
-    → first_refusal (capsule_rows bytes) ≡ first_refusal (capsule_rows_by head size)
-capsule_refusal_same {head} {bytes} b there =
-    let h : header_size bytes ≡ header_size head = number_least 28 16 4 b there (omega arith) in
-    let i : image_size bytes ≡ image_size head = number_least 28 24 4 b there (omega arith) in
-    let s : is_short bytes ≡ is_short head = shorter_least 28 28 b there (omega arith) in
-    rw (h, i, s, b.long) refl
+-- a front that has the first 28 bytes, or all, has the header of the whole
+pub header_same : {front bytes : List ℕ} {size : ℕ} → Begins front size bytes
+    → min 28 size ≤ length front → capsule_header bytes ≡ capsule_header front
+header_same {front} {bytes} b there =
+    elim (whole_or_long 28 b there) [
+      | inl e ↦ ap capsule_header e
+      | inr long ↦
+          let g : field bytes 0 16 ≡ field front 0 16 = field_same 0 16 b (omega arith) in
+          let h : header_size bytes ≡ header_size front = number_same 16 4 b (omega arith) in
+          let f : number_at bytes 20 4 ≡ number_at front 20 4 = number_same 20 4 b (omega arith) in
+          let i : image_size bytes ≡ image_size front = number_same 24 4 b (omega arith) in
+          let s : is_short bytes ≡ is_short front = shorter_least 28 28 b there (omega arith) in
+          rw (g, h, f, i, s) refl
+    ]
 
 -- ---- an image item, by its head
 

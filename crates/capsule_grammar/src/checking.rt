@@ -12,6 +12,7 @@ use crate::header::{check_capsule_header, is_fmp_guid};
 use crate::parts::{
     check_fmp_header, check_image, check_offsets, driver_count, image_count, start_of,
 };
+use fmp_headers::CapsuleHeader;
 
 /// The length of the capsule at the front of the bytes, or the first wrong place. It takes no
 /// memory and copies nothing.
@@ -19,7 +20,7 @@ pub fn check(bytes: &[u8]) -> Result<usize, Refusal>
     ensures ok { IfOk result (λ n. n ≡ image_size bytes.now) }
     ensures refused { Answers result (refusal bytes.now) }
 {
-    let header = check_capsule_header(bytes, bytes.len() as u64)?;
+    let header = check_capsule_header(CapsuleHeader::read(bytes), bytes.len() as u64)?;
     if is_fmp_guid(&header.guid) {
         let body = &bytes[header.header_size as usize..header.image_size as usize];
         check_fmp(body, header.header_size)?;

@@ -24,8 +24,6 @@ mod reading;
 mod rebuilding;
 mod refusal;
 mod sizes;
-#[cfg(test)]
-mod tests;
 mod value;
 
 pub use all::{MAX_CAPSULES, decode_all};

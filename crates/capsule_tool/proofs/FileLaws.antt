@@ -4,8 +4,8 @@ use Rattle.std.proofs.Common.{drop, length-append, length-take, length-take-le, 
 use Rattle.std.proofs.Common.{sym, ap, subst, ◌∙◌, arith}
 use Rattle.std.specs.Prelude.{Option, None, Some, Result, Ok, Err, IsErrOf}
 use Rattle.std.specs.Io.KnownBytes.{IsAtEnd}
-use Rattle.std.proofs.lemmas.Bool.{cond-true, cond-false, ltb-false, or_parts}
-use Rattle.std.proofs.lemmas.List.{take_all, take_at, take-take, drop-take, drop_at, drop-drop}
+use Rattle.std.proofs.lemmas.Bool.{cond-true, cond-false, ltb-false, lt-ltb, or_parts}
+use Rattle.std.proofs.lemmas.List.{take_at, take-take, drop-take, drop_at, drop-drop}
 use Rattle.cu_base.specs.Causes.{Rose}
 use Rattle.cu_base.specs.Fields.{field}
 use Rattle.cu_base.specs.Refusals.{first_refusal}
@@ -18,6 +18,7 @@ use Rattle.fmp_headers.specs.CapsuleHeader.{header_size, image_size, is_short, c
 use Rattle.fmp_headers.specs.CapsuleHeader.{capsule_header_fields, capsule_header_rows}
 use Rattle.fmp_headers.specs.declared.capsule.CapsuleHeader.{CapsuleHeader}
 use Rattle.fmp_headers.specs.declared.faults.HeaderFault.{HeaderFault}
+use Rattle.fmp_headers.specs.declared.faults.HeaderFault.TheVariants.{Short}
 use Rattle.cu_base.proofs.Rows.{passed}
 use Rattle.fmp_headers.proofs.Headers.{header_or_ok, header_given}
 use Rattle.capsule_grammar.specs.Fronts.{Begins}
@@ -31,6 +32,7 @@ use Rattle.capsule_tool.specs.declared.scan.stop.ScanStop.{ScanStop}
 use Rattle.capsule_tool.specs.declared.scan.stop.ScanStop.TheVariants.{Refused, Ended, Failed}
 use Rattle.capsule_tool.specs.declared.scan.stop.ScanStop.TheVariants.{Memory}
 use Rattle.capsule_tool.proofs.ScanLaws.{rose_then}
+use Rattle.capsule_tool.proofs.VerdictLaws.{header_behind}
 
 -- a file of which head is the first 28 bytes
 head_begins : (head file : List ℕ) → length head ≡ 28 → take 28 file ≡ head
@@ -47,15 +49,17 @@ head_front head bytes file long is =
 
 -- ---- the header
 
-pub cut_in_head : (head : List ℕ) (a b : Progress) → EndsIn head a b → length head ≡ 28
-    → IsCutFile head a b
-cut_in_head head a b (n, below, goes, end) long =
-    let l : length (take n head) ≡ n = length-take-le n head (omega (arith, below)) in (
+pub cut_in_head : (read : Result CapsuleHeader HeaderFault) (head : List ℕ) (a b : Progress)
+    → EndsIn head a b → length head ≡ 28 → read ≡ Err Short → IsCutFile read a b
+cut_in_head read head a b (n, below, goes, end) long short =
+    let l : length (take n head) ≡ n = length-take-le n head (omega (arith, below)) in
+    let cut : capsule_header (take n head) ≡ Err Short =
+    rw (lt-ltb (length (take n head)) 28 (omega (arith, l, below, long))) refl in (
       take n head,
       goes,
       end,
       omega (arith, l, below, long),
-      take_all 28 (take n head) (omega (arith, l, below, long)) ∙ ap (λ k. take k head) (sym l),
+      cut ∙ sym short,
       λ none. absurd (omega (arith, (is_front (take n head) none).long, l, below, long)),
     )
 
@@ -98,15 +102,16 @@ header_bounds head header read =
     })
 
 -- a file that is no FMP capsule, or whose header is refused, has nothing more to tell
-pub file_plain : (head : List ℕ) (a b : Progress) → Goes head a b → length head ≡ 28
+pub file_plain : (read : Result CapsuleHeader HeaderFault) (head : List ℕ) (a b : Progress)
+    → capsule_header head ≡ read → Goes head a b → length head ≡ 28
     → (capsule_header head ≡ Ok (capsule_header_fields head)
-    → is_fmp_guid (field head 0 16) ≡ false) → TellsFile head a b None
-file_plain head a b goes long plain = (
+    → is_fmp_guid (field head 0 16) ≡ false) → TellsFile read a b None
+file_plain read head a b same goes long plain = (
   head,
   goes,
   omega (arith, long),
   omega (arith, long),
-  take_all 28 head (omega (arith, long)),
+  same,
   λ file is none.
       let front : take 28 file ≡ head = ap (λ n. take n file) (sym long) ∙ is in
       let guid : field file 0 16 ≡ field head 0 16 =
@@ -164,19 +169,20 @@ header_of head file header long is read =
           ∙ ap (λ (h : CapsuleHeader). h.image_size) same;
     }
 
-file_tells : (head : List ℕ) (header : CapsuleHeader) (a b c : Progress)
-    (refused : Option (ℕ × Why)) → Goes head a b → length head ≡ 28
+file_tells : (found : Result CapsuleHeader HeaderFault) (head : List ℕ) (header : CapsuleHeader)
+    (a b c : Progress) (refused : Option (ℕ × Why)) → capsule_header head ≡ found → Goes head a b
+    → length head ≡ 28
     → capsule_header head ≡ Ok header
     → is_fmp_guid header.guid.bytes ≡ true
     → Tells (header.image_size - 28) (λ rest. fmp_rows (drop (header.header_size - 28) rest)
-    header.header_size) [] b c refused → TellsFile head a c refused
-file_tells head header a b c refused goes long read fmp (bytes, then, short, tells) =
+    header.header_size) [] b c refused → TellsFile found a c refused
+file_tells found head header a b c refused is_found goes long read fmp (bytes, then, short, tells) =
     let bounds = header_bounds head header read in (
       head ++ bytes,
       goes_after head bytes a b c goes then,
       omega (arith, length-append head bytes, long),
       omega (arith, length-append head bytes, long, short, bounds.low, bounds.within, bounds.limit),
-      take_at head bytes 28 long,
+      header_behind head bytes (omega (arith, long)) ∙ is_found,
       λ file is none.
           let front = is_front file none in
           let of = header_of head file header long (head_front head bytes file long is) read in
@@ -197,18 +203,19 @@ file_tells head header a b c refused goes long read fmp (bytes, then, short, tel
     )
 
 -- a file that ends within the capsule that its header tells
-file_cut : (head : List ℕ) (header : CapsuleHeader) (a b c : Progress) → Goes head a b
+file_cut : (found : Result CapsuleHeader HeaderFault) (head : List ℕ) (header : CapsuleHeader)
+    (a b c : Progress) → capsule_header head ≡ found → Goes head a b
     → length head ≡ 28 → capsule_header head ≡ Ok header
     → (bytes : List ℕ) → Goes bytes b c → length bytes < header.image_size - 28 → IsAtEnd c.left
-    → IsCutFile head a c
-file_cut head header a b c goes long read bytes then short end =
+    → IsCutFile found a c
+file_cut found head header a b c is_found goes long read bytes then short end =
     let bounds = header_bounds head header read in
     let is : take 28 (head ++ bytes) ≡ head = take_at head bytes 28 long in (
       head ++ bytes,
       goes_after head bytes a b c goes then,
       end,
       omega (arith, length-append head bytes, long, short, bounds.low, bounds.within, bounds.limit),
-      is ∙ sym (take_all (length (head ++ bytes)) head (omega (arith, length-append head bytes))),
+      header_behind head bytes (omega (arith, long)) ∙ is_found,
       λ none. absurd
           (omega (
             arith,
@@ -220,28 +227,33 @@ file_cut head header a b c goes long read bytes then short end =
           )),
     )
 
-pub file_scanned : {X : Type 0} (head : List ℕ) (header : CapsuleHeader) (a b c : Progress)
-    (result : Result X ScanStop) → Goes head a b → length head ≡ 28
+pub file_scanned : {X : Type 0} (found : Result CapsuleHeader HeaderFault) (head : List ℕ)
+    (header : CapsuleHeader) (a b c : Progress) (result : Result X ScanStop)
+    → capsule_header head ≡ found → Goes head a b → length head ≡ 28
     → capsule_header head ≡ Ok header
     → is_fmp_guid header.guid.bytes ≡ true
     → Scans (header.image_size - 28) (λ rest. fmp_rows (drop (header.header_size - 28) rest)
-    header.header_size) [] b c result → ScansFile head a c result
-file_scanned head header a b c (Ok x) goes long read fmp scans =
-    file_tells head header a b c None goes long read fmp scans
-file_scanned head header a b c (Err (Refused refusal)) goes long read fmp scans =
-    file_tells head header a b c (Some (refusal.at, refusal.why)) goes long read fmp scans
-file_scanned head header a b c (Err Ended) goes long read fmp (bytes, then, short, end) =
-    file_cut head header a b c goes long read bytes then short end
-file_scanned head header a b c (Err Failed) goes long read fmp rose = rose_then
+    header.header_size) [] b c result → ScansFile found a c result
+file_scanned found head header a b c (Ok x) is_found goes long read fmp scans =
+    file_tells found head header a b c None is_found goes long read fmp scans
+file_scanned found head header a b c (Err (Refused refusal)) is_found goes long read fmp scans =
+    file_tells found head header a b c (Some (refusal.at, refusal.why)) is_found goes long read fmp
+    scans
+file_scanned found head header a b c (Err Ended) is_found goes long read fmp
+    (bytes, then, short, end) =
+    file_cut found head header a b c is_found goes long read bytes then short end
+file_scanned found head header a b c (Err Failed) is_found goes long read fmp rose = rose_then
     _ _ _ goes.later rose
-file_scanned head header a b c (Err Memory) goes long read fmp stop = tt
+file_scanned found head header a b c (Err Memory) is_found goes long read fmp stop = tt
 
-pub file_stopped : {T : Type 0} (X : Type 0) (head : List ℕ) (a b : Progress) (fault : StreamFault)
-    → length head ≡ 28 → (IsErrOf {T = T} (Err fault) faults.Ended → EndsIn head a b)
+pub file_stopped : {T : Type 0} (X : Type 0) (read : Result CapsuleHeader HeaderFault)
+    (head : List ℕ) (a b : Progress) (fault : StreamFault) → length head ≡ 28 → read ≡ Err Short
+    → (IsErrOf {T = T} (Err fault) faults.Ended → EndsIn head a b)
     → (IsErrOf {T = T} (Err fault) faults.Failed → Rose a.faults b.faults)
-    → ScansFile {X = X} head a b (Err (stop_of fault))
-file_stopped X head a b faults.Ended long ends rose = cut_in_head head a b (ends refl) long
-file_stopped X head a b faults.Failed long ends rose = rose refl
+    → ScansFile {X = X} read a b (Err (stop_of fault))
+file_stopped X read head a b faults.Ended long short ends rose =
+    cut_in_head read head a b (ends refl) long short
+file_stopped X read head a b faults.Failed long short ends rose = rose refl
 
 -- ---- no FMP capsule
 

@@ -7,6 +7,9 @@ use Rattle.cu_base.specs.Causes.{Rose}
 use Rattle.cu_base.specs.Refusals.{Row, first_refusal}
 use Rattle.cu_base.specs.declared.limits.TheConstants.{MAX_CAPSULE_BYTES}
 use Rattle.cu_io.specs.Streams.{Progress, Goes, Ends}
+use Rattle.fmp_headers.specs.CapsuleHeader.{capsule_header}
+use Rattle.fmp_headers.specs.declared.capsule.CapsuleHeader.{CapsuleHeader}
+use Rattle.fmp_headers.specs.declared.faults.HeaderFault.{HeaderFault}
 use Rattle.capsule_grammar.specs.Fronts.{Begins}
 use Rattle.capsule_grammar.specs.Refusals.{Answers, capsule_rows, body_rows, image_rows}
 use Rattle.capsule_grammar.specs.declared.refusal.Refusal.{Refusal}
@@ -64,36 +67,38 @@ ScansImage ahead size at old new (Err Ended) = IsCut (ahead + size) [] old new
 ScansImage ahead size at old new (Err Failed) = Rose old.faults new.faults
 ScansImage ahead size at old new (Err Memory) = ⊤
 
--- Some bytes came, of which head is the first 28. In every file that begins with them, and whose
+-- Some bytes came, from which this header was read. In every file that begins with them, and whose
 -- capsule header is not refused, this is the first row of the body that holds.
-abbrev pub TellsFile : List ℕ → Progress → Progress → Option (ℕ × Why) → Type 0
-TellsFile head old new refused =
+abbrev pub TellsFile : Result CapsuleHeader HeaderFault → Progress → Progress → Option (ℕ × Why)
+    → Type 0
+TellsFile read old new refused =
     (bytes : List ℕ) × Goes bytes old new × (28 ≤ length bytes) × (length bytes ≤ MAX_CAPSULE_BYTES)
-    × (take 28 bytes ≡ head)
+    × (capsule_header bytes ≡ read)
     × ((file : List ℕ) → take (length bytes) file ≡ bytes → first_refusal (capsule_rows file) ≡ None
     → first_refusal (body_rows file) ≡ refused)
 
--- all bytes came, whose first ones head has, and their capsule header is refused
-abbrev pub IsCutFile : List ℕ → Progress → Progress → Type 0
-IsCutFile head old new =
+-- all bytes came, from which this header was read, and their capsule header is refused
+abbrev pub IsCutFile : Result CapsuleHeader HeaderFault → Progress → Progress → Type 0
+IsCutFile read old new =
     (bytes : List ℕ) × Goes bytes old new × IsAtEnd new.left × (length bytes ≤ MAX_CAPSULE_BYTES)
-    × (take 28 bytes ≡ take (length bytes) head)
+    × (capsule_header bytes ≡ read)
     × (first_refusal (capsule_rows bytes) ≡ None → ⊥)
 
--- a file of this many bytes, of which head has the first 28 or all; and this was found of its body,
--- where its capsule header is not refused
-pub record IsFound (head : List ℕ) (size : ℕ) (found : Result (Unit {0}) Refusal) (file : List ℕ) :
-    Type 0 where
+-- a file of this many bytes, from which this header is read; and this was found of its body, where
+-- its capsule header is not refused
+pub record IsFound (read : Result CapsuleHeader HeaderFault) (size : ℕ)
+    (found : Result (Unit {0}) Refusal) (file : List ℕ) : Type 0 where
   pub long : length file ≡ size
-  pub front : take 28 file ≡ take size head
+  pub header : capsule_header file ≡ read
   pub body : first_refusal (capsule_rows file) ≡ None
       → Answers found (first_refusal (body_rows file))
 
 -- what came of scanning a file
-abbrev pub ScansFile : {X : Type 0} → List ℕ → Progress → Progress → Result X ScanStop → Type 0
-ScansFile head old new (Ok done) = TellsFile head old new None
-ScansFile head old new (Err (Refused refusal)) =
-    TellsFile head old new (Some (refusal.at, refusal.why))
-ScansFile head old new (Err Ended) = IsCutFile head old new
-ScansFile head old new (Err Failed) = Rose old.faults new.faults
-ScansFile head old new (Err Memory) = ⊤
+abbrev pub ScansFile : {X : Type 0} → Result CapsuleHeader HeaderFault → Progress → Progress
+    → Result X ScanStop → Type 0
+ScansFile read old new (Ok done) = TellsFile read old new None
+ScansFile read old new (Err (Refused refusal)) =
+    TellsFile read old new (Some (refusal.at, refusal.why))
+ScansFile read old new (Err Ended) = IsCutFile read old new
+ScansFile read old new (Err Failed) = Rose old.faults new.faults
+ScansFile read old new (Err Memory) = ⊤

@@ -2,7 +2,7 @@
 //! passed by.
 
 ghost use Rattle.std.specs.Prelude.{◌≡◌, ℕ, ◌+◌, ◌-◌, ◌^◌, ◌≤◌, ◌<◌, List, [], drop, length, IfOk};
-ghost use Rattle.std.specs.Prelude.{IsErrOf};
+ghost use Rattle.std.specs.Prelude.{Err, IsErrOf};
 ghost use Rattle.std.specs.Io.KnownBytes.{IsAtEnd};
 ghost use Rattle.cu_base.specs.Causes.{HasCauseOf};
 ghost use Rattle.cu_io.specs.Streams.{Goes, Passes};
@@ -18,12 +18,9 @@ use body::scan_body;
 use capsule_grammar::{Refusal, check_capsule_header, is_fmp_guid};
 use cu_base::MAX_CAPSULE_BYTES;
 use cu_io::{ReadFault, Source, Stream, StreamFault};
-use fmp_headers::{CAPSULE_HEADER_BYTES, CapsuleHeader};
+use fmp_headers::{CAPSULE_HEADER_BYTES, CapsuleHeader, HeaderFault};
 use std::alloc::Global;
 use stop::ScanStop;
-
-/// The bytes of the fields of a capsule header.
-const HEADER_BYTES: usize = CAPSULE_HEADER_BYTES as usize;
 
 /// Judges the file that a stream begins, which is read to its end. TooLong comes exactly where it
 /// has more than 67,108,864 bytes, after one more was taken, and Read only where the source's count
@@ -37,28 +34,27 @@ pub fn judge_stream<S: Source>(alloc: Global, stream: &mut Stream<S>) -> Result<
         → Passes (MAX_CAPSULE_BYTES + 1) stream.old stream.new }
     ensures cause { HasCauseOf ReadFault.Read stream.old.faults stream.new.faults result }
 {
-    let mut head = [0u8; HEADER_BYTES];
-    match scan(alloc, stream, &mut head) {
-        Ok(()) => judge_rest(stream, &head, Ok(())),
-        Err(ScanStop::Refused(refusal)) => judge_rest(stream, &head, Err(refusal)),
-        Err(ScanStop::Ended) => Ok(verdict(&head, stream.place(), Ok(()))),
+    let mut read = Err(HeaderFault::Short);
+    match scan(alloc, stream, &mut read) {
+        Ok(()) => judge_rest(stream, read, Ok(())),
+        Err(ScanStop::Refused(refusal)) => judge_rest(stream, read, Err(refusal)),
+        Err(ScanStop::Ended) => Ok(verdict(read, stream.place(), Ok(()))),
         Err(ScanStop::Failed) => Err(ReadFault::Read),
         Err(ScanStop::Memory) => Err(ReadFault::Memory),
     }
 }
 
-/// Passes by the rest of a file, whose first bytes are `head`, and judges it by what was found of
-/// its body.
+/// Passes by the rest of a file, whose header was read, and judges it by what was found of its
+/// body.
 fn judge_rest<S: Source>(
     stream: &mut Stream<S>,
-    head: &[u8],
+    read: Result<CapsuleHeader, HeaderFault>,
     found: Result<(), Refusal>,
 ) -> Result<Verdict, ReadFault>
-    requires head { length head.now ≡ 28 }
     requires place { stream.old.place ≤ MAX_CAPSULE_BYTES }
     ensures judged { IfOk result (λ verdict. (rest : List ℕ) × Goes rest stream.old stream.new
         × IsAtEnd stream.new.left × (stream.new.place ≤ MAX_CAPSULE_BYTES)
-        × ((file : List ℕ) → IsFound head.now stream.new.place found file
+        × ((file : List ℕ) → IsFound read stream.new.place found file
         → verdict ≡ verdict_of file)) }
     ensures too_long { IsErrOf result ReadFault.TooLong
         → Passes (MAX_CAPSULE_BYTES + 1 - stream.old.place) stream.old stream.new }
@@ -66,20 +62,22 @@ fn judge_rest<S: Source>(
 {
     match stream.pass(MAX_CAPSULE_BYTES as u64 + 1 - stream.place()) {
         Ok(()) => Err(ReadFault::TooLong),
-        Err(StreamFault::Ended) => Ok(verdict(head, stream.place(), found)),
+        Err(StreamFault::Ended) => Ok(verdict(read, stream.place(), found)),
         Err(StreamFault::Failed) => Err(ReadFault::Read),
     }
 }
 
-/// The verdict on a file of `size` bytes, of which `head` has the first ones, by what was found of
-/// its body.
-fn verdict(head: &[u8], size: u64, found: Result<(), Refusal>) -> Verdict
-    requires head { length head.now ≡ 28 }
+/// The verdict on a file of `size` bytes, by the header that was read at its front and by what was
+/// found of its body.
+fn verdict(
+    read: Result<CapsuleHeader, HeaderFault>,
+    size: u64,
+    found: Result<(), Refusal>,
+) -> Verdict
     requires small { size < 2 ^ 32 }
-    ensures { (file : List ℕ) → IsFound head.now size found file → result ≡ verdict_of file }
+    ensures { (file : List ℕ) → IsFound read size found file → result ≡ verdict_of file }
 {
-    let there = (size as usize).min(HEADER_BYTES);
-    match check_capsule_header(&head[..there], size) {
+    match check_capsule_header(read, size) {
         Err(refusal) => Verdict::Refused(refusal),
         Ok(header) => match found {
             Err(refusal) => Verdict::Refused(refusal),
@@ -91,18 +89,22 @@ fn verdict(head: &[u8], size: u64, found: Result<(), Refusal>) -> Verdict
     }
 }
 
-/// Scans a file as far as its headers say, and keeps its first bytes.
+/// Scans a file as far as its headers say, and keeps the header that was read.
 fn scan<S: Source>(
     alloc: Global,
     stream: &mut Stream<S>,
-    head: &mut [u8; HEADER_BYTES],
+    read: &mut Result<CapsuleHeader, HeaderFault>,
 ) -> Result<(), ScanStop>
     requires begun { stream.old.place ≡ 0 }
-    ensures scan { ScansFile head.new stream.old stream.new result }
+    requires short { read.old ≡ Err HeaderFault.Short }
+    ensures scan { ScansFile read.new stream.old stream.new result }
     ensures counts { stream.old.faults ≤ stream.new.faults }
 {
-    stream.fill(head)?;
-    match CapsuleHeader::read(head) {
+    let mut head = [0u8; CAPSULE_HEADER_BYTES as usize];
+    stream.fill(&mut head)?;
+    let found = CapsuleHeader::read(&head);
+    *read = found;
+    match found {
         Ok(header) if is_fmp_guid(&header.guid) => scan_rest(alloc, stream, &header),
         _ => Ok(()),
     }

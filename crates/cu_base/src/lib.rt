@@ -18,8 +18,6 @@ mod number;
 mod places;
 mod status;
 mod steps;
-#[cfg(test)]
-mod tests;
 mod text;
 mod ticket;
 mod time;

@@ -14,8 +14,6 @@ mod read;
 mod sink;
 mod source;
 mod stream;
-#[cfg(test)]
-mod tests;
 mod write;
 
 pub use files::{FileInputs, FileSource, StdSink};

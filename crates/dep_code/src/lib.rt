@@ -19,8 +19,6 @@ mod ops;
 mod read;
 mod reading;
 mod stack;
-#[cfg(test)]
-mod tests;
 mod tree;
 mod typing;
 mod writing;

@@ -8,8 +8,6 @@ mod guids;
 mod image;
 mod laws;
 mod layout;
-#[cfg(test)]
-mod tests;
 
 pub use capsule::{CAPSULE_HEADER_BYTES, CapsuleHeader};
 pub use faults::HeaderFault;

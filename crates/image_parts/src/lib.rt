@@ -15,8 +15,6 @@ mod payload_header;
 mod section;
 mod splitting;
 mod support;
-#[cfg(test)]
-mod tests;
 mod value;
 
 pub use admission::is_admitted;

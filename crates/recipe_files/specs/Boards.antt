@@ -1,14 +1,16 @@
--- A board's text: the document that `toml` reads of it, its tests in order, and the board that it
+-- A board's text: the document that `toml` reads of it, its rows in order, and the board that it
 -- says.
 use Rattle.std.specs.Prelude.{◌≡◌, ℕ, Bool, String, List, [], ◌∷◌, length, map, nat_lt, ◌==◌}
 use Rattle.std.specs.Prelude.{Option, None, Some, Result, Ok, Err, if◌then◌else◌}
 use Rattle.std.specs.BTreeMap.{BTreeMap}
+use Rattle.std.specs.List.{flat_map}
 use Rattle.std.specs.declared.alloc.Global.{Global}
 use Rattle.std.specs.Str.{is_utf8}
-use Rattle.toml.specs.Data.{Members}
+use Rattle.toml.specs.Data.{Data, Members}
 use Rattle.toml.specs.declared.value.Value.{Value}
 use Rattle.toml.specs.View.{table_view}
 use Rattle.toml.specs.Parse.{parse_document}
+use Rattle.cu_base.specs.Refusals.{Row, first_refusal}
 use Rattle.bench_model.specs.Boards.{BoardValue, least_bank, most_capacity}
 use Rattle.bench_model.specs.declared.limits.TheConstants.{MAX_STORE}
 use Rattle.recipe_files.specs.declared.faults.BadKind.{BadKind}
@@ -22,11 +24,11 @@ use Rattle.recipe_files.specs.declared.keys.Key.TheVariants.{Digests, Device}
 use Rattle.recipe_files.specs.declared.faults.Stop.{Stop}
 use Rattle.recipe_files.specs.declared.faults.Stop.TheVariants as stop
 use Rattle.recipe_files.specs.Keys.{key_name}
-use Rattle.recipe_files.specs.Faults.{fault_if, first_fault}
-use Rattle.recipe_files.specs.Tests.{key_test}
+use Rattle.recipe_files.specs.Faults.{fault_row, one_table}
+use Rattle.recipe_files.specs.Tests.{key_rows, digest_rows}
 use Rattle.recipe_files.specs.Values.{number_in, number_or, text_in, is_two, entries_in}
-use Rattle.recipe_files.specs.Digests.{digest_of, digest_test}
-use Rattle.recipe_files.specs.Devices.{device_of, entry_tests}
+use Rattle.recipe_files.specs.Digests.{digest_of}
+use Rattle.recipe_files.specs.Devices.{device_of, entry_rows}
 
 -- whether the devices of a document have two banks each; without a layout they have one
 abbrev pub has_two_banks : Members → Bool
@@ -36,26 +38,40 @@ has_two_banks table = is_two (text_in Layout table)
 abbrev pub store_in : Members → ℕ
 store_in table = number_or MAX_STORE Store table
 
--- the tests of a document, in the order of the keys
-abbrev pub board_tests : Members → List (Option Fault)
-board_tests table =
-    key_test Bank table
-    ∷ key_test Store table
-    ∷ key_test Layout table
-    ∷ key_test ResultMax table
-    ∷ key_test Digests table
-    ∷ first_fault (map digest_test (entries_in Digests table))
-    ∷ key_test Device table
-    ∷ fault_if (length (entries_in Device table) == 0) MissingKey Device
-    ∷ first_fault (entry_tests (most_capacity (has_two_banks table)) [] (entries_in Device table))
-    ∷ fault_if
-    (nat_lt (number_in Bank table) (least_bank (number_in ResultMax table)))
-    BankTooSmall Bank
+-- the row of a list of devices: there is one
+abbrev pub some_rows : List Data → List (Row Fault)
+some_rows entries = fault_row (length entries == 0) MissingKey Device ∷ []
+
+-- the fault of a list of devices without one
+unfoldable pub some_test : List Data → Option Fault
+some_test entries = first_refusal (some_rows entries)
+
+-- the row of a bank: it has room for the results up to the greatest
+abbrev pub bank_rows : ℕ → ℕ → List (Row Fault)
+bank_rows bank result_max = fault_row (nat_lt bank (least_bank result_max)) BankTooSmall Bank ∷ []
+
+-- the fault of a bank for its results
+unfoldable pub bank_test : ℕ → ℕ → Option Fault
+bank_test bank result_max = first_refusal (bank_rows bank result_max)
+
+-- the tables of a document, in the order of the keys
+abbrev pub board_tables : Members → List (List (Row Fault))
+board_tables table =
+    key_rows Bank table
+    ∷ key_rows Store table
+    ∷ key_rows Layout table
+    ∷ key_rows ResultMax table
+    ∷ key_rows Digests table
+    ∷ flat_map digest_rows (entries_in Digests table)
+    ∷ key_rows Device table
+    ∷ some_rows (entries_in Device table)
+    ∷ entry_rows (most_capacity (has_two_banks table)) [] (entries_in Device table)
+    ∷ bank_rows (number_in Bank table) (number_in ResultMax table)
     ∷ []
 
 -- the first fault of a document
 unfoldable pub board_test : Members → Option Fault
-board_test table = first_fault (board_tests table)
+board_test table = first_refusal (one_table (board_tables table))
 
 -- the board that a document without a fault says
 unfoldable pub board_in : Members → BoardValue

@@ -1,9 +1,10 @@
 -- The tables of devices in a board's text. Their keys are tested in this order, and a name or a
 -- triple that an earlier table has is told at the key of the later one.
-use Rattle.std.specs.Prelude.{◌≡◌, ℕ, ◌-◌, ◌≤◌, nat_lt, List, [], ◌∷◌, ◌++◌, map, Option, None}
-use Rattle.std.specs.Prelude.{Some}
+use Rattle.std.specs.Prelude.{◌≡◌, ℕ, true, ◌-◌, ◌≤◌, nat_lt, List, [], ◌∷◌, ◌++◌, map, Option}
+use Rattle.std.specs.Prelude.{None, Some}
 use Rattle.toml.specs.Data.{Data, Members, no_members, as_table}
 use Rattle.cu_base.specs.Kept.{Kept}
+use Rattle.cu_base.specs.Refusals.{Row, first_refusal}
 use Rattle.bench_model.specs.Devices.{DeviceValue, capacity_of, has_name, has_triple}
 use Rattle.recipe_files.specs.declared.faults.BadKind.TheVariants.{OutOfRange, Repeated, WrongKind}
 use Rattle.recipe_files.specs.declared.faults.Fault.{Fault}
@@ -12,24 +13,36 @@ use Rattle.recipe_files.specs.declared.keys.Key.TheVariants.{FwType, Capacity, V
 use Rattle.recipe_files.specs.declared.keys.Key.TheVariants.{Flags}
 use Rattle.recipe_files.specs.declared.devices.Factory.{Factory}
 use Rattle.bench_model.specs.declared.limits.TheConstants.{MAX_CAPACITY, MAX_FW_TYPE, MIN_CAPACITY}
-use Rattle.recipe_files.specs.Faults.{fault_if, first_fault}
-use Rattle.recipe_files.specs.Tests.{key_test}
+use Rattle.recipe_files.specs.Faults.{fault_row, one_table}
+use Rattle.recipe_files.specs.Tests.{key_rows}
 use Rattle.recipe_files.specs.Values.{number_in, text_in, guid_in}
 
--- the tests of the keys behind name and triple, where so much capacity is left on the board
-abbrev pub factory_tests : ℕ → Members → List (Option Fault)
-factory_tests room table =
-    key_test FwType table
-    ∷ key_test Capacity table
-    ∷ fault_if (nat_lt room (number_in Capacity table)) OutOfRange Capacity
-    ∷ key_test Version table
-    ∷ key_test Floor table
-    ∷ key_test Flags table
+-- the row of a capacity where so much is left on the board
+abbrev pub room_rows : ℕ → ℕ → List (Row Fault)
+room_rows room capacity = fault_row (nat_lt room capacity) OutOfRange Capacity ∷ []
+
+-- the fault of a capacity where so much is left on the board
+unfoldable pub room_test : ℕ → ℕ → Option Fault
+room_test room capacity = first_refusal (room_rows room capacity)
+
+-- the tables of the keys behind name and triple, where so much capacity is left on the board
+abbrev pub factory_tables : ℕ → Members → List (List (Row Fault))
+factory_tables room table =
+    key_rows FwType table
+    ∷ key_rows Capacity table
+    ∷ room_rows room (number_in Capacity table)
+    ∷ key_rows Version table
+    ∷ key_rows Floor table
+    ∷ key_rows Flags table
     ∷ []
+
+-- the first fault of those keys
+unfoldable pub factory_test : ℕ → Members → Option Fault
+factory_test room table = first_refusal (one_table (factory_tables room table))
 
 -- the factory numbers of a table that passes those tests
 pub record IsFactory (room : ℕ) (table : Members) (f : Factory) : Type 0 where
-  pub passes : first_fault (factory_tests room table) ≡ None
+  pub passes : factory_test room table ≡ None
   pub fw_type : number_in FwType table ≡ f.fw_type
   pub capacity : number_in Capacity table ≡ f.capacity
   pub version : number_in Version table ≡ f.version
@@ -40,19 +53,20 @@ pub record IsFactory (room : ℕ) (table : Members) (f : Factory) : Type 0 where
   pub fits : f.capacity ≤ MAX_CAPACITY
   pub within : f.capacity ≤ room
 
--- the tests of a table behind those of these devices, where so much capacity is left
-abbrev pub table_tests : ℕ → List DeviceValue → Members → List (Option Fault)
-table_tests room earlier table =
-    key_test Name table
-    ∷ fault_if (has_name (text_in Name table) earlier) Repeated Name
-    ∷ key_test TypeId table
-    ∷ key_test Index table
-    ∷ key_test Instance table
-    ∷ fault_if
+-- the tables of a table of a device behind these devices, where so much capacity is left
+abbrev pub device_tables : ℕ → List DeviceValue → Members → List (List (Row Fault))
+device_tables room earlier table =
+    key_rows Name table
+    ∷ (fault_row (has_name (text_in Name table) earlier) Repeated Name ∷ [])
+    ∷ key_rows TypeId table
+    ∷ key_rows Index table
+    ∷ key_rows Instance table
+    ∷ (fault_row
     (has_triple
     (guid_in TypeId table) (number_in Index table) (number_in Instance table) earlier)
-    Repeated Instance
-    ∷ factory_tests room table
+    Repeated Instance ∷ [])
+    ∷ one_table (factory_tables room table)
+    ∷ []
 
 -- the device of a table
 abbrev pub device_in : Members → DeviceValue
@@ -68,18 +82,22 @@ device_in table = record {
   flags = number_in Flags table;
 }
 
+-- the rows of the table of a device
+abbrev pub table_rows : ℕ → List DeviceValue → Members → List (Row Fault)
+table_rows room earlier table = one_table (device_tables room earlier table)
+
 -- the first fault of the table of a device
 unfoldable pub table_test : ℕ → List DeviceValue → Members → Option Fault
-table_test room earlier table = first_fault (table_tests room earlier table)
+table_test room earlier table = first_refusal (table_rows room earlier table)
 
--- the test of an entry of the list: it is a table, and that table's own
-abbrev pub entry_fault : ℕ → List DeviceValue → Option Members → Option Fault
-entry_fault room earlier None = Some (record { kind = WrongKind; key = Device })
-entry_fault room earlier (Some table) = table_test room earlier table
+-- the rows of an entry: it is a table, and that table's own
+abbrev pub rows_or_kind : ℕ → List DeviceValue → Option Members → List (Row Fault)
+rows_or_kind room earlier None = fault_row true WrongKind Device ∷ []
+rows_or_kind room earlier (Some table) = table_rows room earlier table
 
 -- the first fault of an entry
 unfoldable pub entry_test : ℕ → List DeviceValue → Data → Option Fault
-entry_test room earlier d = entry_fault room earlier (as_table d)
+entry_test room earlier d = first_refusal (rows_or_kind room earlier (as_table d))
 
 -- the table that an entry is
 abbrev pub table_or_none : Option Members → Members
@@ -90,12 +108,16 @@ table_or_none (Some table) = table
 unfoldable pub device_of : Data → DeviceValue
 device_of d = device_in (table_or_none (as_table d))
 
--- the tests of the entries behind those of these devices, in order; each takes of what is left
-abbrev pub entry_tests : ℕ → List DeviceValue → List Data → List (Option Fault)
-entry_tests room earlier [] = []
-entry_tests room earlier (d ∷ ds) =
-    entry_test room earlier d
-    ∷ entry_tests (room - (device_of d).capacity) (earlier ++ device_of d ∷ []) ds
+-- the rows of the entries behind these devices, in order; each entry takes of what is left
+abbrev pub entry_rows : ℕ → List DeviceValue → List Data → List (Row Fault)
+entry_rows room earlier [] = []
+entry_rows room earlier (d ∷ ds) =
+    rows_or_kind room earlier (as_table d)
+    ++ entry_rows (room - (device_of d).capacity) (earlier ++ device_of d ∷ []) ds
+
+-- the first fault of the entries, within so much capacity
+unfoldable pub entries_test : ℕ → List Data → Option Fault
+entries_test most ds = first_refusal (entry_rows most [] ds)
 
 -- the device was appended to these, and so much capacity was left
 pub record Adds (old : List DeviceValue) (d : DeviceValue) (new : List DeviceValue)

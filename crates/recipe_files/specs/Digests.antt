@@ -1,16 +1,12 @@
 -- A digest in a board's text: its 32 bytes in 64 lower-case hexadecimal digits.
-use Rattle.std.specs.Prelude.{ℕ, Bool, ◌||◌, List, replicate, Option, None, option_map, is_some}
+use Rattle.std.specs.Prelude.{ℕ, Bool, ◌||◌, List, replicate, Option, None, option_map}
 use Rattle.std.specs.Prelude.{unwrap_or, if◌then◌else◌}
 use Rattle.std.specs.List.{list_all}
 use Rattle.std.specs.Result.{result_ok}
 use Rattle.hex.specs.Hex.{decode_sized}
-use Rattle.toml.specs.Data.{Data, as_str}
+use Rattle.toml.specs.Data.{Data}
 use Rattle.cu_base.specs.declared.digest.Digest.{Digest}
 use Rattle.bench_model.specs.Names.{is_between}
-use Rattle.recipe_files.specs.declared.faults.BadKind.TheVariants.{OutOfRange}
-use Rattle.recipe_files.specs.declared.faults.Fault.{Fault}
-use Rattle.recipe_files.specs.declared.keys.Key.TheVariants.{Digests}
-use Rattle.recipe_files.specs.Tests.{kind_of_fault}
 use Rattle.recipe_files.specs.Values.{text_of}
 
 -- 0 to 9 or a to f
@@ -26,12 +22,6 @@ abbrev pub digest_of_text : List ℕ → Option Digest
 digest_of_text text =
     if list_all is_lower_digit text then option_map digest_of_bytes
     (result_ok (decode_sized text 32)) else None
-
--- the fault of an entry as a digest
-unfoldable pub digest_test : Data → Option Fault
-digest_test d =
-    option_map (λ kind. record { kind = kind; key = Digests })
-    (kind_of_fault OutOfRange (λ text. is_some (digest_of_text text)) (as_str d))
 
 -- the digest of an entry
 unfoldable pub digest_of : Data → Digest

@@ -1,25 +1,25 @@
--- Faults told by the first test that finds one.
-use Rattle.std.specs.Prelude.{◌≡◌, Bool, List, [], ◌∷◌, Option, None, Some, Result, Ok, Err}
-use Rattle.std.specs.Prelude.{if◌then◌else◌}
+-- The faults of a board's text: rows of test and fault at a key, in tables of which the first row
+-- that holds decides.
+use Rattle.std.specs.Prelude.{◌≡◌, Bool, List, Option, None, Some, Result, Ok, Err}
+use Rattle.std.specs.List.{flat_map}
+use Rattle.cu_base.specs.Refusals.{Row, row}
 use Rattle.recipe_files.specs.declared.faults.BadKind.{BadKind}
 use Rattle.recipe_files.specs.declared.faults.Fault.{Fault}
 use Rattle.recipe_files.specs.declared.faults.Stop.{Stop}
 use Rattle.recipe_files.specs.declared.faults.Stop.TheVariants.{Bad, Memory}
 use Rattle.recipe_files.specs.declared.keys.Key.{Key}
 
--- a fault where a test holds
-abbrev pub fault_if : Bool → BadKind → Key → Option Fault
-fault_if holds kind key = if holds then Some (record { kind = kind; key = key }) else None
+-- a row of its test, and of the kind and the key of its fault
+abbrev pub fault_row : Bool → BadKind → Key → Row Fault
+fault_row holds kind key = row holds (record { kind = kind; key = key })
 
--- what the first test that finds a fault finds
-abbrev pub first_fault : List (Option Fault) → Option Fault
-first_fault [] = None
-first_fault (None ∷ tests) = first_fault tests
-first_fault (Some fault ∷ tests) = Some fault
+-- tables one behind another, as one
+abbrev pub one_table : List (List (Row Fault)) → List (Row Fault)
+one_table tables = flat_map (λ rows. rows) tables
 
--- a value with this property exactly where the test finds no fault, else the fault; or want of
--- memory
+-- a value with this property exactly where no row refuses, else the fault of the first row that
+-- holds; or want of memory
 abbrev pub Reads : {V : Type 0} → Option Fault → (V → Type 0) → Result V Stop → Type 0
-Reads test IsRead (Ok v) = (test ≡ None) × IsRead v
-Reads test IsRead (Err (Bad fault)) = test ≡ Some fault
-Reads test IsRead (Err Memory) = Unit {0}
+Reads refused IsRead (Ok v) = (refused ≡ None) × IsRead v
+Reads refused IsRead (Err (Bad fault)) = refused ≡ Some fault
+Reads refused IsRead (Err Memory) = Unit {0}

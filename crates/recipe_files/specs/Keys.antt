@@ -36,6 +36,7 @@ pub data Values : Type 0 where
   names : Values  -- a text that is the name of a device
   layouts : Values  -- a text that is `one` or `two`
   guids : Values  -- a text that is a GUID
+  hashes : Values  -- a text that is a digest
   lists : ℕ → Values  -- a list of at most so many entries
   optional : Values → Values  -- the same, or nothing where the key is absent
 

@@ -1,8 +1,10 @@
-ghost use Rattle.std.specs.Prelude.{◌≡◌, Ok, IfOk, IfErr};
-ghost use Rattle.toml.specs.View.{table_view};
+ghost use Rattle.std.specs.Prelude.{◌≡◌, ◌≤◌, Some, None, Ok, IfOk, IfErr, MatchResult, length};
+ghost use Rattle.std.specs.Prelude.{map};
+ghost use Rattle.toml.specs.View.{view, table_view};
 ghost use Rattle.recipe_files.specs.Boards.{FindsTable, TellsFault, board_in, board_of};
-ghost use Rattle.recipe_files.specs.Boards.{board_test, board_text, document, document_test};
-ghost use Rattle.bench_model.specs.Boards.{most_capacity};
+ghost use Rattle.recipe_files.specs.Boards.{bank_test, board_test, board_text, document};
+ghost use Rattle.recipe_files.specs.Boards.{document_test, some_test};
+ghost use Rattle.bench_model.specs.Boards.{least_bank, most_capacity};
 ghost use Rattle.recipe_files.specs.Faults.{Reads};
 
 use crate::devices::read_devices;
@@ -17,6 +19,7 @@ use bench_model::{
 use cu_base::Text;
 use std::alloc::Global;
 use toml::Table;
+use toml::value::Array;
 
 /// The most bytes of all capacities in sum, with two banks a device or one.
 fn most_capacity(two_banks: bool) -> u32
@@ -29,8 +32,40 @@ fn most_capacity(two_banks: bool) -> u32
     }
 }
 
+/// Whether a list of devices has one.
+#[tactic(auto, unfolding(crate::specs::Boards::some_test))]
+fn check_some(list: &Array) -> Result<(), Fault>
+    ensures { MatchResult result
+        (λ _. (some_test (map view list.now.items) ≡ None) × (1 ≤ length list.now.items))
+        (λ fault. some_test (map view list.now.items) ≡ Some fault) }
+{
+    if list.is_empty() {
+        return Err(Fault {
+            kind: BadKind::MissingKey,
+            key: Key::Device,
+        });
+    }
+    Ok(())
+}
+
+/// Whether a bank has room for the results up to `result_max`.
+#[tactic(auto, unfolding(crate::specs::Boards::bank_test))]
+fn check_bank(bank: u32, result_max: u16) -> Result<(), Fault>
+    ensures { MatchResult result
+        (λ _. (bank_test bank result_max ≡ None) × (least_bank result_max ≤ bank))
+        (λ fault. bank_test bank result_max ≡ Some fault) }
+{
+    if bank < BANK_BASE + RESULT_ROOM * (u32::from(result_max) + 1) {
+        return Err(Fault {
+            kind: BadKind::BankTooSmall,
+            key: Key::Bank,
+        });
+    }
+    Ok(())
+}
+
 /// The board of a document.
-#[tactic(auto, unfolding(crate::specs::Boards::board_test, crate::specs::Boards::board_in))]
+#[tactic(auto, using(crate::proofs::FaultLemmas::board_test_is), unfolding(crate::specs::Boards::board_in))]
 fn read_table(alloc: Global, table: &Table) -> Result<Board, Stop>
     ensures { Reads (board_test (table_view table.now))
         (λ board. board ≡ board_in (table_view table.now))
@@ -48,19 +83,9 @@ fn read_table(alloc: Global, table: &Table) -> Result<Board, Stop>
     let result_max = number_at(table, Key::ResultMax, 0, u64::from(u16::MAX))? as u16;
     let digests = read_digests(alloc, list_at(table, Key::Digests, MAX_DIGESTS)?)?;
     let list = list_at(table, Key::Device, MAX_DEVICES)?;
-    if list.is_empty() {
-        return Err(Stop::Bad(Fault {
-            kind: BadKind::MissingKey,
-            key: Key::Device,
-        }));
-    }
+    check_some(list)?;
     let devices = read_devices(alloc, list, most_capacity(two_banks))?;
-    if bank < BANK_BASE + RESULT_ROOM * (u32::from(result_max) + 1) {
-        return Err(Stop::Bad(Fault {
-            kind: BadKind::BankTooSmall,
-            key: Key::Bank,
-        }));
-    }
+    check_bank(bank, result_max)?;
     Ok(Board::new(bank, store, two_banks, result_max, digests, devices))
 }
 

@@ -1,8 +1,9 @@
-ghost use Rattle.std.specs.Prelude.{◌≡◌, Some, None, [], ◌∷◌, ◌++◌, MatchResult, map};
+ghost use Rattle.std.specs.Prelude.{◌≡◌, ◌≤◌, Some, None, [], ◌∷◌, ◌++◌, MatchResult, map};
 ghost use Rattle.toml.specs.View.{view, table_view};
 ghost use Rattle.recipe_files.specs.Devices.{Adds, AreRead, IsFactory, device_in, device_of};
-ghost use Rattle.recipe_files.specs.Devices.{entry_test, entry_tests, factory_tests, table_test};
-ghost use Rattle.recipe_files.specs.Faults.{Reads, first_fault};
+ghost use Rattle.recipe_files.specs.Devices.{entries_test, entry_test, factory_test, room_test};
+ghost use Rattle.recipe_files.specs.Devices.{table_test};
+ghost use Rattle.recipe_files.specs.Faults.{Reads};
 
 use crate::faults::{BadKind, Fault, Stop};
 use crate::keys::Key;
@@ -23,11 +24,28 @@ struct Factory {
     flags: u32,
 }
 
+/// Whether so many bytes of capacity are left on the board.
+#[tactic(auto, unfolding(crate::specs::Devices::room_test))]
+fn check_room(capacity: u64, room: u32) -> Result<(), Fault>
+    ensures { MatchResult result
+        (λ _. (room_test room capacity ≡ None) × (capacity ≤ room))
+        (λ fault. room_test room capacity ≡ Some fault) }
+{
+    if u64::from(room) < capacity {
+        return Err(Fault {
+            kind: BadKind::OutOfRange,
+            key: Key::Capacity,
+        });
+    }
+    Ok(())
+}
+
 /// The factory state in a table, where so many bytes of capacity are left on the board.
+#[tactic(auto, using(crate::proofs::FaultLemmas::factory_test_is))]
 fn factory_at(table: &Table, room: u32) -> Result<Factory, Fault>
     ensures { MatchResult result
         (λ factory. IsFactory room (table_view table.now) factory)
-        (λ fault. first_fault (factory_tests room (table_view table.now)) ≡ Some fault) }
+        (λ fault. factory_test room (table_view table.now) ≡ Some fault) }
 {
     let fw_type = number_at(table, Key::FwType, 0, u64::from(MAX_FW_TYPE))?;
     let capacity = number_at(
@@ -36,12 +54,7 @@ fn factory_at(table: &Table, room: u32) -> Result<Factory, Fault>
         u64::from(MIN_CAPACITY),
         u64::from(MAX_CAPACITY),
     )?;
-    if u64::from(room) < capacity {
-        return Err(Fault {
-            kind: BadKind::OutOfRange,
-            key: Key::Capacity,
-        });
-    }
+    check_room(capacity, room)?;
     let version = number_at(table, Key::Version, 0, u64::from(u32::MAX))?;
     let floor = number_at(table, Key::Floor, 0, u64::from(u32::MAX))?;
     let flags = number_at(table, Key::Flags, 0, u64::from(u32::MAX))?;
@@ -56,7 +69,7 @@ fn factory_at(table: &Table, room: u32) -> Result<Factory, Fault>
 
 /// Reads a table and appends its device, where so many bytes of capacity are left on the board.
 /// It tells what is left behind it.
-#[tactic(auto, unfolding(crate::specs::Devices::table_test))]
+#[tactic(auto, using(crate::proofs::FaultLemmas::table_test_is))]
 fn add_device(alloc: Global, devices: &mut Devices, table: &Table, room: u32) -> Result<u32, Stop>
     ensures { Reads (table_test room devices.old.items (table_view table.now))
         (Adds devices.old.items (device_in (table_view table.now)) devices.new.items room)
@@ -95,7 +108,7 @@ fn add_device(alloc: Global, devices: &mut Devices, table: &Table, room: u32) ->
 
 /// Reads an entry of the list and appends its device, where so much capacity is left. It tells what
 /// is left behind it.
-#[tactic(auto, unfolding(crate::specs::Devices::entry_test, crate::specs::Devices::device_of))]
+#[tactic(auto, unfolding(crate::specs::Devices::entry_test, crate::specs::Devices::table_test, crate::specs::Devices::device_of))]
 fn add_entry(alloc: Global, devices: &mut Devices, entry: &Value, room: u32) -> Result<u32, Stop>
     ensures { Reads (entry_test room devices.old.items (view entry.now))
         (Adds devices.old.items (device_of (view entry.now)) devices.new.items room)
@@ -111,8 +124,9 @@ fn add_entry(alloc: Global, devices: &mut Devices, entry: &Value, room: u32) -> 
 }
 
 /// The devices of a list, whose capacities have at most so many bytes in sum.
+#[tactic(auto, using(crate::proofs::FaultLemmas::entries_test_is))]
 pub(crate) fn read_devices(alloc: Global, list: &Array, most: u32) -> Result<Devices, Stop>
-    ensures { Reads (first_fault (entry_tests most [] (map view list.now.items)))
+    ensures { Reads (entries_test most (map view list.now.items))
         (AreRead (map view list.now.items) most)
         result }
 {

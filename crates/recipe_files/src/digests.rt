@@ -2,8 +2,8 @@ ghost use Rattle.std.specs.Prelude.{◌≡◌, Some, None, MatchResult, map};
 ghost use Rattle.std.specs.List.{list_all};
 ghost use Rattle.toml.specs.View.{view};
 ghost use Rattle.recipe_files.specs.Digests.{is_lower_digit, digest_of, digest_of_text};
-ghost use Rattle.recipe_files.specs.Digests.{digest_test};
-ghost use Rattle.recipe_files.specs.Faults.{Reads, first_fault};
+ghost use Rattle.recipe_files.specs.Faults.{Reads};
+ghost use Rattle.recipe_files.specs.Tests.{digest_test, digests_test};
 
 use crate::faults::{BadKind, Fault, Stop};
 use crate::keys::Key;
@@ -32,7 +32,7 @@ fn digest_of_text(text: &str) -> Option<Digest>
     }
 }
 
-#[tactic(auto, unfolding(crate::specs::Digests::digest_test, crate::specs::Digests::digest_of))]
+#[tactic(auto, unfolding(crate::specs::Tests::digest_test, crate::specs::Digests::digest_of))]
 fn digest_of(value: &Value) -> Result<Digest, Fault>
     ensures { MatchResult result
         (λ digest. (digest_test (view value.now) ≡ None) × (digest_of (view value.now) ≡ digest))
@@ -54,8 +54,9 @@ fn digest_of(value: &Value) -> Result<Digest, Fault>
 }
 
 /// The digests of a list.
+#[tactic(auto, using(crate::proofs::FaultLemmas::digests_test_is))]
 pub(crate) fn read_digests(alloc: Global, list: &Array) -> Result<Digests, Stop>
-    ensures { Reads (first_fault (map digest_test (map view list.now.items)))
+    ensures { Reads (digests_test (map view list.now.items))
         (λ digests. digests.items ≡ map digest_of (map view list.now.items)) result }
 {
     let mut digests = Digests::new(alloc);

@@ -7,8 +7,6 @@ mod devices;
 mod digests;
 mod faults;
 mod keys;
-#[cfg(test)]
-mod tests;
 mod values;
 
 pub use board::read_board;

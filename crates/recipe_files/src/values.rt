@@ -2,10 +2,11 @@ ghost use Rattle.std.specs.Prelude.{◌≡◌, ◌≤◌, Some, None, MatchOptio
 ghost use Rattle.std.specs.Prelude.{length};
 ghost use Rattle.toml.specs.Data.{get_member};
 ghost use Rattle.toml.specs.View.{view, table_view};
+ghost use Rattle.cu_base.specs.Refusals.{first_refusal};
 ghost use Rattle.bench_model.specs.Names.{is_device_name};
 ghost use Rattle.recipe_files.specs.Keys.{key_name, values_of};
 ghost use Rattle.recipe_files.specs.Keys.{guids, layouts, lists, names, numbers, optional};
-ghost use Rattle.recipe_files.specs.Tests.{key_test, value_fault};
+ghost use Rattle.recipe_files.specs.Tests.{key_test, value_rows};
 ghost use Rattle.recipe_files.specs.Values.{entries_in, entries_of, guid_in, guid_of};
 ghost use Rattle.recipe_files.specs.Values.{is_two, number_in, number_of, number_or, text_in};
 ghost use Rattle.recipe_files.specs.Values.{text_of};
@@ -22,13 +23,11 @@ use toml::{Table, Value};
 pub(crate) fn number_at(table: &Table, key: Key, low: u64, high: u64) -> Result<u64, Fault>
     requires { values_of key ≡ numbers low high }
     ensures { MatchResult result
-        (λ n. (key_test key (table_view table.now) ≡ None) × (number_in key (table_view table.now) ≡ n) × (low ≤ n) × (n ≤ high))
+        (λ n. (key_test key (table_view table.now) ≡ None)
+        × (number_in key (table_view table.now) ≡ n) × (low ≤ n) × (n ≤ high))
         (λ fault. key_test key (table_view table.now) ≡ Some fault) }
 {
-    match number_of(value_at(table, key)?, low, high) {
-        Ok(n) => Ok(n),
-        Err(kind) => Err(Fault { kind, key }),
-    }
+    number_of(value_at(table, key)?, key, low, high)
 }
 
 /// The number at a key that may be absent, and takes the integers from `low` to `high`; the default
@@ -52,10 +51,7 @@ pub(crate) fn number_or(
     let Some(value) = found_at(table, key) else {
         return Ok(default);
     };
-    match number_of(value, low, high) {
-        Ok(n) => Ok(n),
-        Err(kind) => Err(Fault { kind, key }),
-    }
+    number_of(value, key, low, high)
 }
 
 /// Whether the layout at a key that may be absent is that of devices with two banks.
@@ -84,7 +80,8 @@ pub(crate) fn is_two_at(table: &Table, key: Key) -> Result<bool, Fault>
 pub(crate) fn name_at<'a>(table: &'a Table, key: Key) -> Result<&'a str, Fault>
     requires { values_of key ≡ names }
     ensures { MatchResult result
-        (λ text. (key_test key (table_view table.now) ≡ None) × (text_in key (table_view table.now) ≡ text.now) × IsTrue (is_device_name text.now))
+        (λ text. (key_test key (table_view table.now) ≡ None)
+        × (text_in key (table_view table.now) ≡ text.now) × IsTrue (is_device_name text.now))
         (λ fault. key_test key (table_view table.now) ≡ Some fault) }
 {
     let value = value_at(table, key)?;
@@ -130,7 +127,9 @@ pub(crate) fn guid_at(table: &Table, key: Key) -> Result<Guid, Fault>
 pub(crate) fn list_at<'a>(table: &'a Table, key: Key, most: usize) -> Result<&'a Array, Fault>
     requires { values_of key ≡ lists most }
     ensures { MatchResult result
-        (λ list. (key_test key (table_view table.now) ≡ None) × (entries_in key (table_view table.now) ≡ map view list.now.items) × (length list.now.items ≤ most))
+        (λ list. (key_test key (table_view table.now) ≡ None)
+        × (entries_in key (table_view table.now) ≡ map view list.now.items)
+        × (length list.now.items ≤ most))
         (λ fault. key_test key (table_view table.now) ≡ Some fault) }
 {
     let value = value_at(table, key)?;
@@ -173,16 +172,24 @@ fn found_at<'a>(table: &'a Table, key: Key) -> Option<&'a Value>
 }
 
 /// The number of a value that is an integer from the first to the second.
-fn number_of(value: &Value, low: u64, high: u64) -> Result<u64, BadKind>
+fn number_of(value: &Value, key: Key, low: u64, high: u64) -> Result<u64, Fault>
     ensures { MatchResult result
-        (λ n. (value_fault (numbers low high) (view value.now) ≡ None) × (number_of (view value.now) ≡ n) × (low ≤ n) × (n ≤ high))
-        (λ kind. value_fault (numbers low high) (view value.now) ≡ Some kind) }
+        (λ n. (first_refusal (value_rows (numbers low high) key (view value.now)) ≡ None)
+        × (number_of (view value.now) ≡ n) × (low ≤ n) × (n ≤ high))
+        (λ fault. first_refusal (value_rows (numbers low high) key (view value.now))
+        ≡ Some fault) }
 {
     let Some(whole) = value.as_integer() else {
-        return Err(BadKind::WrongKind);
+        return Err(Fault {
+            kind: BadKind::WrongKind,
+            key,
+        });
     };
     match u64::try_from(whole) {
         Ok(n) if low <= n && n <= high => Ok(n),
-        _ => Err(BadKind::OutOfRange),
+        _ => Err(Fault {
+            kind: BadKind::OutOfRange,
+            key,
+        }),
     }
 }

@@ -10,8 +10,6 @@ mod names;
 mod numbers;
 mod operands;
 mod parts;
-#[cfg(test)]
-mod tests;
 
 pub use bench_model::MAX_FILE_NAME;
 pub use faults::{ScriptFault, ScriptKind};

@@ -3,8 +3,6 @@
 mod entries;
 mod parts;
 mod picture;
-#[cfg(test)]
-mod tests;
 mod units;
 
 pub use entries::trace_text;

@@ -8,8 +8,6 @@ mod line;
 mod platform;
 mod running;
 mod spent;
-#[cfg(test)]
-mod tests;
 mod verdict;
 
 pub use delivery::is_thin_on;

@@ -1,7 +1,7 @@
 //! Examples from the UEFI specification and RFC 9562, worked by hand, and one call with ample
 //! memory of each function that may want memory.
 
-use crate::{
+use cu_base::{
     BaseFault, Blob, CountLedger, EfiStatus, EfiTime, Failed, Guid, Ledger, NoMemory, Numbers,
     Steps, Text, UNSPECIFIED_ZONE, put_u16, put_u32, put_u64, read_u16, read_u32, read_u64,
 };

@@ -1,7 +1,8 @@
 //! Layouts written by hand from the tables of UEFI 2.10, 8.5.3 and 23.3.2.
 
-use crate::{CapsuleHeader, FMP_CAPSULE_GUID, FmpHeader, HeaderFault, ImageHeader};
+use crate::texts::expect_text;
 use cu_base::{Blob, Guid};
+use fmp_headers::{CapsuleHeader, FMP_CAPSULE_GUID, FmpHeader, HeaderFault, ImageHeader};
 use std::process::Abort;
 use std::test::Fail;
 
@@ -125,8 +126,7 @@ fn faults_of_headers_have_a_text(rt: HostRuntime) -> Result<(), Fail> {
         ),
     ];
     for (fault, text) in cases {
-        let printed = format!(in rt.alloc(); "{fault}")?;
-        assert_eq!(rt; printed.as_str(), text);
+        expect_text(&rt, &fault, text)?;
     }
     Ok(())
 }

@@ -1,11 +1,12 @@
 //! Sections written by hand from the table of operations, and one call with ample memory of each
 //! function that may want memory.
 
-use crate::{
+use crate::texts::expect_text;
+use cu_base::{Blob, Guid};
+use dep_code::{
     CompareKind, Compared, DepFault, DepRefusal, DepTree, DepWhy, Op, Ops, Versions, eval,
     read_ops, tree_of, write_ops,
 };
-use cu_base::{Blob, Guid};
 use std::alloc::Global;
 use std::process::Abort;
 use std::test::Fail;
@@ -251,8 +252,7 @@ fn causes_have_a_text(rt: HostRuntime) -> Result<(), Fail> {
         (DepWhy::TooLong, "the section is longer than 4096 bytes"),
     ];
     for (why, text) in cases {
-        let printed = format!(in rt.alloc(); "{why}")?;
-        assert_eq!(rt; printed.as_str(), text);
+        expect_text(&rt, &why, text)?;
     }
     Ok(())
 }
@@ -263,12 +263,11 @@ fn refusals_have_a_text(rt: HostRuntime) -> Result<(), Fail> {
         at: 6,
         why: DepWhy::BadOpcode,
     });
-    let printed = format!(in rt.alloc(); "{refusal}")?;
-    assert_eq!(rt;
-        printed.as_str(),
-        "refused at 6: there is no operation of this byte"
-    );
-    let memory = format!(in rt.alloc(); "{}", DepRefusal::Memory)?;
-    assert_eq!(rt; memory.as_str(), "out of memory");
+    expect_text(
+        &rt,
+        &refusal,
+        "refused at 6: there is no operation of this byte",
+    )?;
+    expect_text(&rt, &DepRefusal::Memory, "out of memory")?;
     Ok(())
 }

@@ -1,46 +1,17 @@
-ghost use Rattle.std.specs.Prelude.{◌≡◌};
+//! The text of a trace with a line of each kind.
 
-use crate::{
+use crate::platform::{SYS, board, text};
+use cu_base::{EfiStatus, EfiTime, Guid, Items, Ticket};
+use reset_play::{
     Answer, BootEnd, CapsuleResult, End, Entry, EsrtEntry, Event, FmpResult, FolderFile, Kind,
     Report, Script, Snapshot, StagedPair, Trace, UnitKey, UnitLine, trace_text,
 };
-use bench_model::{Board, Device, Devices, is_device_name};
-use cu_base::{EfiStatus, EfiTime, Guid, Items, Text, Ticket};
 use std::alloc::Global;
 use std::process::Abort;
-
-const SYS: [u8; 16] = [0xAA, 0xAA, 0xAA, 0xAA, 0, 0, 0, 0, 0, 0, 0, 0, 0, 0, 0, 1];
 
 const FMP: [u8; 16] = [
     0xED, 0xD5, 0xCB, 0x6D, 0x2D, 0xE8, 0x44, 0x4C, 0xBD, 0xA1, 0x71, 0x94, 0x19, 0x9A, 0xD9, 0x2A,
 ];
-
-fn text(alloc: Global, rt: &impl Abort, s: &str) -> Text
-    ensures { result ≡ s.now }
-{
-    Text::from_str(alloc, s).expect(rt, "memory")
-}
-
-fn board(alloc: Global, rt: &impl Abort) -> Board {
-    let mut devices = Devices::new(alloc);
-    assert!(rt; is_device_name("sys"));
-    let device = Device {
-        name: text(alloc, rt, "sys"),
-        type_id: Guid { bytes: SYS },
-        index: 1,
-        instance: 0,
-        fw_type: 1,
-        capacity: 65_536,
-        version: 3,
-        floor: 2,
-        flags: 0,
-    };
-    assert!(rt; !devices.has_name(device.name.as_str()));
-    assert!(rt; !devices.has_triple(&device.type_id, device.index, device.instance));
-    assert!(rt; devices.push(device).is_ok());
-    assert_eq!(rt; devices.as_slice().len(), 1);
-    Board::new(65_536, 2, false, 15, Items::new(alloc), devices)
-}
 
 fn line(
     alloc: Global,
@@ -177,7 +148,7 @@ fn lines_of_a_trace(rt: HostRuntime) {
         assert!(rt; script.push(event).is_ok());
         assert!(rt; trace.push(entry(answer)).is_ok());
     }
-    let text = trace_text(alloc, &board(alloc, &rt), &script, &trace).expect(&rt, "memory");
+    let text = trace_text(alloc, &board(alloc, &rt, 0), &script, &trace).expect(&rt, "memory");
     let want = "1 drop ok 18446744073709551615
 2 signal nobank
 3 stage unsupported

@@ -1,8 +1,13 @@
 //! Readers and writers of std that give and take at most two bytes a call, and fail at one call.
 
-use super::*;
+use cu_base::{Blob, NoMemory};
+use cu_io::{
+    FileSource, ReadFault, Room, StdSink, Stream, StreamFault, WriteFault, read_whole, write_whole,
+};
+use std::alloc::Global;
 use std::io;
 use std::io::{ErrorKind, Read, Write};
+use std::test::Fail;
 
 /// A reader of these bytes that fails at the call of a number, from 1.
 #[derive(Drop)]

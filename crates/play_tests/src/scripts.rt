@@ -1,8 +1,8 @@
 //! Scripts worked by hand: each event in form, each way to be refused, and the limits.
 
-use crate::{Event, Script, ScriptFault, ScriptKind, read_script, script_inputs};
 use bench_model::Choice;
 use cu_base::{EfiTime, UNSPECIFIED_ZONE};
+use reset_play::{Event, Script, ScriptFault, ScriptKind, read_script, script_inputs};
 use std::alloc::{AllocError, Global};
 use std::process::Abort;
 use std::test::Fail;

@@ -1,6 +1,8 @@
-use crate::{BadKind, FileFault, read_board};
+//! Boards read from their texts.
+
 use bench_model::{Board, Device};
 use cu_base::Guid;
+use recipe_files::{BadKind, FileFault, read_board};
 use std::alloc::Global;
 use std::process::Abort;
 

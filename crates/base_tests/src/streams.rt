@@ -2,8 +2,12 @@ ghost use Rattle.std.specs.Prelude.{◌≡◌, IfOk};
 
 mod short;
 
-use super::*;
 use cu_base::{Blob, NoMemory, Numbers, Text};
+use cu_io::{
+    FileInputs, Inputs, Loaded, MemInputs, MemSink, MemSource, NoFaultInputs, NoFaultSink,
+    OpenFault, ReadFault, Room, SinkFault, Source, Stream, StreamFault, WriteFault, read_whole,
+    write_whole,
+};
 use std::alloc::Global;
 use std::fmt::Display;
 use std::process::Abort;

@@ -1,9 +1,12 @@
 //! Images written by hand from the tables of UEFI 2.10, 23.1 and 23.2 and of EDK II's payload
 //! header, and admission by digests that another program computed.
 
-use crate::{AuthParts, PartFault, PartRefusal, PartWhy, Parts, PayloadHead, is_admitted, split};
+use crate::texts::expect_text;
 use cu_base::{Blob, Digest, Guid};
 use dep_code::DepWhy;
+use image_parts::{
+    AuthParts, PartFault, PartRefusal, PartWhy, Parts, PayloadHead, is_admitted, split,
+};
 use std::alloc::Global;
 use std::process::Abort;
 use std::test::Fail;
@@ -301,8 +304,7 @@ fn causes_have_a_text(rt: HostRuntime) -> Result<(), Fail> {
         ),
     ];
     for (why, text) in cases {
-        let printed = format!(in rt.alloc(); "{why}")?;
-        assert_eq!(rt; printed.as_str(), text);
+        expect_text(&rt, &why, text)?;
     }
     Ok(())
 }
@@ -313,12 +315,11 @@ fn refusals_have_a_text(rt: HostRuntime) -> Result<(), Fail> {
         at: 35,
         why: PartWhy::BadSignature,
     });
-    let printed = format!(in rt.alloc(); "{refusal}")?;
-    assert_eq!(rt;
-        printed.as_str(),
-        "refused at 35: the signature of the payload header is not MSS1"
-    );
-    let memory = format!(in rt.alloc(); "{}", PartRefusal::Memory)?;
-    assert_eq!(rt; memory.as_str(), "out of memory");
+    expect_text(
+        &rt,
+        &refusal,
+        "refused at 35: the signature of the payload header is not MSS1",
+    )?;
+    expect_text(&rt, &PartRefusal::Memory, "out of memory")?;
     Ok(())
 }

@@ -2,7 +2,8 @@
 
 ghost use Rattle.std.specs.Prelude.{◌≤◌, length};
 
-use crate::{
+use crate::texts::expect_text;
+use capsule_grammar::{
     Body, Capsule, DecodeFault, EncodeFault, Refusal, Why, check, check_fmp_header, check_image,
     check_offsets, decode, decode_all, encode, fits, is_rebuilt, item_count, rebuild, start_of,
 };
@@ -460,8 +461,7 @@ fn causes_have_a_text(rt: HostRuntime) -> Result<(), Fail> {
         ),
     ];
     for (why, text) in cases {
-        let printed = format!(in rt.alloc(); "{why}")?;
-        assert_eq!(rt; printed.as_str(), text);
+        expect_text(&rt, &why, text)?;
     }
     Ok(())
 }
@@ -469,14 +469,16 @@ fn causes_have_a_text(rt: HostRuntime) -> Result<(), Fail> {
 #[test]
 fn faults_have_a_text(rt: HostRuntime) -> Result<(), Fail> {
     let refused = DecodeFault::Refused(refusal(44, Why::OffsetsNotRising));
-    let printed = format!(in rt.alloc(); "{refused}")?;
-    assert_eq!(rt;
-        printed.as_str(),
-        "refused at 44: an item does not begin behind the item before it"
-    );
-    let memory = format!(in rt.alloc(); "{}", DecodeFault::Memory)?;
-    assert_eq!(rt; memory.as_str(), "out of memory");
-    let large = format!(in rt.alloc(); "{}", EncodeFault::TooLarge)?;
-    assert_eq!(rt; large.as_str(), "the capsule has more than 67108864 bytes");
+    expect_text(
+        &rt,
+        &refused,
+        "refused at 44: an item does not begin behind the item before it",
+    )?;
+    expect_text(&rt, &DecodeFault::Memory, "out of memory")?;
+    expect_text(
+        &rt,
+        &EncodeFault::TooLarge,
+        "the capsule has more than 67108864 bytes",
+    )?;
     Ok(())
 }

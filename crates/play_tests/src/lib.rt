@@ -1,0 +1,14 @@
+//! Tests of `recipe_files` and `reset_play`, which call what these crates offer and nothing else.
+//! They stand apart, so that a proof of those crates does not wait for them.
+#![tactic(auto)]
+
+#[cfg(test)]
+mod boards;
+#[cfg(test)]
+mod deliveries;
+#[cfg(test)]
+mod platform;
+#[cfg(test)]
+mod scripts;
+#[cfg(test)]
+mod traces;
