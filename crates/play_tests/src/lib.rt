@@ -1,4 +1,4 @@
-//! Tests of `recipe_files` and `reset_play`, which call what these crates offer and nothing else.
+//! Tests of `recipe_files`, `report_tables` and `reset_play`, which call what these crates offer and nothing else.
 //! They stand apart, so that a proof of those crates does not wait for them.
 #![tactic(auto)]
 
@@ -8,6 +8,8 @@ mod boards;
 mod deliveries;
 #[cfg(test)]
 mod platform;
+#[cfg(test)]
+mod reports;
 #[cfg(test)]
 mod scripts;
 #[cfg(test)]

@@ -4,7 +4,7 @@ use crate::platform::{SYS, board, text};
 use cu_base::{EfiStatus, EfiTime, Guid, Items, Ticket};
 use reset_play::{
     Answer, BootEnd, CapsuleResult, End, Entry, EsrtEntry, Event, FmpResult, FolderFile, Kind,
-    Report, Script, Snapshot, StagedPair, Trace, UnitKey, UnitLine, trace_text,
+    Report, ResultVar, Script, Snapshot, StagedPair, Trace, UnitKey, UnitLine, trace_text,
 };
 use std::alloc::Global;
 use std::process::Abort;

@@ -34,7 +34,7 @@ same_made : (g g' : List ℕ) (a a' b b' c c' d d' f f' h h' : ℕ) → g ≡ g'
 same_made g g' a a' b b' c c' d d' f f' h h' eg ea eb ec ed ef eh =
     rw (eg, ea, eb, ec, ed, ef, eh) refl
 
-number_moved : (bytes : List ℕ) (at k size : ℕ)
+pub number_moved : (bytes : List ℕ) (at k size : ℕ)
     → number_at bytes (at + k) size ≡ number_at (drop at bytes) k size
 number_moved bytes at k size = ap (λ l. number (take size l)) (sym (drop-drop k at bytes))
 
@@ -59,19 +59,19 @@ entry_parts w g a b c d f h rest e is whole eg ea eb ec ed ef eh =
     let lf : length f ≡ 4 = ap length ef ∙ length-bytes_of 4 e.last_version in
     same_made (field w 0 16) e.class.bytes _ _ _ _ _ _ _ _ _ _ _ _
     (field_in w [] g (a ++ (b ++ (c ++ (d ++ (f ++ (h ++ rest)))))) 0 16
-      (whole ∙ simp append_assoc) refl lg ∙ eg)
+    (whole ∙ simp append_assoc) refl lg ∙ eg)
     (number_at_in w g a e.fw_type (b ++ (c ++ (d ++ (f ++ (h ++ rest))))) 16 4
-      (whole ∙ simp append_assoc) ea lg is.fw_type)
+    (whole ∙ simp append_assoc) ea lg is.fw_type)
     (number_at_in w (g ++ a) b e.version (c ++ (d ++ (f ++ (h ++ rest)))) 20 4
-      (whole ∙ simp append_assoc) eb (simp length-append (omega arith)) is.version)
+    (whole ∙ simp append_assoc) eb (simp length-append (omega arith)) is.version)
     (number_at_in w (g ++ a ++ b) c e.lowest (d ++ (f ++ (h ++ rest))) 24 4
-      (whole ∙ simp append_assoc) ec (simp length-append (omega arith)) is.lowest)
+    (whole ∙ simp append_assoc) ec (simp length-append (omega arith)) is.lowest)
     (number_at_in w (g ++ a ++ b ++ c) d e.flags (f ++ (h ++ rest)) 28 4
-      (whole ∙ simp append_assoc) ed (simp length-append (omega arith)) is.flags)
+    (whole ∙ simp append_assoc) ed (simp length-append (omega arith)) is.flags)
     (number_at_in w (g ++ a ++ b ++ c ++ d) f e.last_version (h ++ rest) 32 4
-      (whole ∙ simp append_assoc) ef (simp length-append (omega arith)) is.last_version)
+    (whole ∙ simp append_assoc) ef (simp length-append (omega arith)) is.last_version)
     (number_at_in w (g ++ a ++ b ++ c ++ d ++ f) h e.last_status rest 36 4
-      (whole ∙ simp append_assoc) eh (simp length-append (omega arith)) is.last_status)
+    (whole ∙ simp append_assoc) eh (simp length-append (omega arith)) is.last_status)
 
 entry_again : (e : EsrtEntry) (rest : List ℕ) → IsEntry e
     → entry_at (entry_bytes e ++ rest) 0 ≡ e
@@ -144,11 +144,11 @@ entries_back b k (suc n) is long =
     ap entry_bytes (entry_moved b at)
     ∙ entry_back (drop at b) (IsBytes-drop at b is) (omega (arith, length-drop at b)) in
     let rest : flat_map entry_bytes (map (λ j. entry_at b (16 + 40 * j)) (range_with_len (k + 1) n))
-        ≡ take (40 * n) (drop (at + 40) b) =
+    ≡ take (40 * n) (drop (at + 40) b) =
     entries_back b (k + 1) n is (omega arith)
     ∙ ap (λ m. take (40 * n) (drop m b)) (omega arith) in
     ap (λ l. l ++ flat_map entry_bytes
-      (map (λ j. entry_at b (16 + 40 * j)) (range_with_len (k + 1) n))) here
+    (map (λ j. entry_at b (16 + 40 * j)) (range_with_len (k + 1) n))) here
     ∙ ap (λ l. take 40 (drop at b) ++ l) rest
     ∙ two_parts b at (40 * n)
     ∙ ap (λ m. take m (drop at b)) (omega arith)
@@ -171,13 +171,19 @@ table_parts w c m v e n whole ec em ev fits size =
     number_at_in w c m n (v ++ e) 4 4 (whole ∙ simp append_assoc) em lc fits in
     let version : number_at w 8 8 ≡ 1 =
     number_at_in w (c ++ m) v 1 e 8 8 (whole ∙ simp append_assoc) ev
-    (simp length-append (omega arith)) (omega arith) in
-    (none_refused (esrt_rows w)
-      (le-ltb _ _ (omega (arith, long)),
-      (not_from_true _ (eq-eqb _ _ (count ∙ sym most)),
-      (not_from_true _ (eq-eqb _ _ version),
-      (not_from_true _ (eq-eqb _ _ (omega (arith, long, count))), tt)))),
-    count)
+    (simp length-append (omega arith)) (omega arith) in (
+      none_refused (esrt_rows w) (
+        le-ltb _ _ (omega (arith, long)),
+        (
+          not_from_true _ (eq-eqb _ _ (count ∙ sym most)),
+          (
+            not_from_true _ (eq-eqb _ _ version),
+            (not_from_true _ (eq-eqb _ _ (omega (arith, long, count))), tt),
+          ),
+        ),
+      ),
+      count,
+    )
 
 pub table_accepted : (es : List EsrtEntry) → AreEntries es
     → (first_refusal (esrt_rows (esrt_bytes es)) ≡ None) × (entry_count (esrt_bytes es) ≡ length es)
@@ -194,10 +200,10 @@ table_again es is =
     let whole = esrt_bytes es in
     ap (λ n. map (λ j. entry_at whole (16 + 40 * j)) (range_with_len 0 n)) (table_accepted es is).1
     ∙ entries_from whole es 0
-      (table_front (bytes_of 4 (length es)) (bytes_of 4 (length es)) (bytes_of 8 1)
-      (flat_map entry_bytes es) (length-bytes_of 4 (length es)) (length-bytes_of 4 (length es))
-      (length-bytes_of 8 1))
-      is.each
+    (table_front (bytes_of 4 (length es)) (bytes_of 4 (length es)) (bytes_of 8 1)
+    (flat_map entry_bytes es) (length-bytes_of 4 (length es)) (length-bytes_of 4 (length es))
+    (length-bytes_of 8 1))
+    is.each
 
 -- the bytes of a table by its fields
 header_back : (b : List ℕ) (n : ℕ) → IsBytes b → 16 ≤ length b → number_at b 0 4 ≡ n
@@ -207,9 +213,9 @@ header_back b n is long count most version =
     ap (λ x. bytes_of 4 x ++ bytes_of 4 n ++ bytes_of 8 1) (sym count)
     ∙ ap (λ x. bytes_of 4 (number_at b 0 4) ++ bytes_of 4 x ++ bytes_of 8 1) (sym most)
     ∙ ap (λ x. bytes_of 4 (number_at b 0 4) ++ bytes_of 4 (number_at b 4 4) ++ bytes_of 8 x)
-      (sym version)
+    (sym version)
     ∙ next_number b _ 8 8 is long
-      (next_number b _ 4 4 is (omega arith) (bytes_of-number_at b 0 4 is (omega arith)))
+    (next_number b _ 4 4 is (omega arith) (bytes_of-number_at b 0 4 is (omega arith)))
 
 pub table_back : (b : List ℕ) → IsBytes b → first_refusal (esrt_rows b) ≡ None
     → esrt_bytes (entries_in b) ≡ b
@@ -223,10 +229,10 @@ table_back b is none =
     let count : length (entries_in b) ≡ n =
     length-map-range_with_len (λ k. entry_at b (16 + 40 * k)) 0 n in
     ap (λ m. bytes_of 4 m ++ bytes_of 4 m ++ bytes_of 8 1 ++ flat_map entry_bytes (entries_in b))
-      count
+    count
     ∙ ap (λ l. l ++ flat_map entry_bytes (entries_in b))
-      (header_back b n is long refl (sym most) version)
+    (header_back b n is long refl (sym most) version)
     ∙ ap (λ l. take 16 b ++ l)
-      (entries_back b 0 n is (omega (arith, size))
-      ∙ take_all (40 * n) (drop 16 b) (omega (arith, size, length-drop 16 b)))
+    (entries_back b 0 n is (omega (arith, size))
+    ∙ take_all (40 * n) (drop 16 b) (omega (arith, size, length-drop 16 b)))
     ∙ take-append-drop 16 b

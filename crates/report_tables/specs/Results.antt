@@ -4,7 +4,8 @@
 -- PayloadIndex and UpdateImageIndex in 1 each, UpdateImageTypeId in 16, and the texts
 -- CapsuleFileName and CapsuleTarget.
 use Rattle.std.specs.Prelude.{◌≡◌, ℕ, ◌+◌, ◌<◌, ◌^◌, ◌==◌, not, nat_lt, List, [], ◌∷◌, ◌++◌, length}
-use Rattle.std.specs.Prelude.{drop, slice_index, All, IfSome, Option, None, Some, if◌then◌else◌}
+use Rattle.std.specs.List.{AllByRecursion}
+use Rattle.std.specs.Prelude.{drop, slice_index, IfSome, Option, None, Some, if◌then◌else◌}
 use Rattle.std.specs.Prelude.{Bool}
 use Rattle.cu_base.specs.Fields.{field, number_at, bytes_of}
 use Rattle.cu_base.specs.Refusals.{Row, row}
@@ -105,8 +106,8 @@ pub record IsFmpResult (p : FmpResult) : Type 0 where
   pub payload : p.payload < 2 ^ 8
   pub index : p.index < 2 ^ 8
   pub type_id : length p.type_id.bytes ≡ 16
-  pub file : All IsPlain p.file
-  pub target : All IsPlain p.target
+  pub file : AllByRecursion IsPlain p.file
+  pub target : AllByRecursion IsPlain p.target
 
 -- each field of a result has its width; its moment is the one that the bytes of it hold, as that of
 -- every moment is

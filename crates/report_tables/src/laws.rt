@@ -2,11 +2,14 @@
 
 ghost use Rattle.std.specs.Prelude.{◌≡◌, ◌<◌, ◌^◌, ℕ, List, None};
 ghost use Rattle.cu_base.specs.Bytes.{IsBytes};
+ghost use Rattle.cu_base.specs.Fields.{number_at};
 ghost use Rattle.cu_base.specs.Refusals.{first_refusal};
 ghost use Rattle.report_tables.specs.Esrt.{AreEntries, entries_in, esrt_bytes, esrt_rows};
+ghost use Rattle.report_tables.specs.Results.{IsResult, result_fields, result_layout, result_rows};
 ghost use Rattle.report_tables.specs.declared.esrt.EsrtEntry.{EsrtEntry};
 ghost use Rattle.report_tables.specs.declared.esrt.TheConstants.{ENTRY_BYTES, ESRT_HEADER_BYTES};
 ghost use Rattle.report_tables.specs.declared.esrt.TheConstants.{ESRT_VERSION};
+ghost use Rattle.report_tables.specs.declared.result.ResultVar.{ResultVar};
 ghost use Rattle.report_tables.specs.declared.result.TheConstants.{FMP_RESULT_BYTES};
 ghost use Rattle.report_tables.specs.declared.result.TheConstants.{FMP_RESULT_VERSION};
 ghost use Rattle.report_tables.specs.declared.result.TheConstants.{RESULT_HEADER_BYTES};
@@ -27,4 +30,14 @@ pub fn esrt_law()
         entries_in (esrt_bytes entries) ≡ entries }
     ensures back { (bytes : List ℕ) → IsBytes bytes → first_refusal (esrt_rows bytes) ≡ None →
         esrt_bytes (entries_in bytes) ≡ bytes }
+{}
+
+/// The same of a result with any Reserved.
+pub fn result_law()
+    ensures accepted { (reserved : ℕ) (v : ResultVar) → reserved < 2 ^ 32 → IsResult v →
+        first_refusal (result_rows (result_layout reserved v)) ≡ None }
+    ensures again { (reserved : ℕ) (v : ResultVar) → reserved < 2 ^ 32 → IsResult v →
+        result_fields (result_layout reserved v) ≡ v }
+    ensures back { (bytes : List ℕ) → IsBytes bytes → first_refusal (result_rows bytes) ≡ None →
+        result_layout (number_at bytes 4 4) (result_fields bytes) ≡ bytes }
 {}

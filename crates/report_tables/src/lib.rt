@@ -12,8 +12,6 @@ pub mod laws;
 mod names;
 mod result;
 mod result_bytes;
-#[cfg(test)]
-mod tests;
 mod units;
 
 pub use entries::esrt_of;

@@ -13,8 +13,8 @@ use cu_base::Items;
 pub use laws::{sample_plays, thin_deliveries_keep_limits};
 pub use reference_machine::{
     Answer, BootEnd, CapsuleResult, End, Entry, EsrtEntry, Event, FmpResult, FolderFile, Kind,
-    MAX_FILES, MAX_FOLDER_BYTES, MAX_MEMORY_BYTES, MAX_SEGMENTS, MAX_STAGED, Report, Serials,
-    Snapshot, StagedPair, UnitKey, UnitLine, UnitLines,
+    MAX_FILES, MAX_FOLDER_BYTES, MAX_MEMORY_BYTES, MAX_SEGMENTS, MAX_STAGED, Report, ResultVar,
+    Serials, Snapshot, StagedPair, UnitKey, UnitLine, UnitLines,
 };
 pub use script::{
     MAX_COUNT, MAX_EVENTS, MAX_FILE_NAME, MAX_INPUT_NAME, MAX_POKE_BYTES, ScriptFault, ScriptKind,

@@ -1,11 +1,11 @@
 //! A table and a result by hand from the UEFI specification, each refusal of both readers, and each
 //! call with ample memory.
 
-use crate::{
-    Esrt, EsrtEntry, FmpResult, ReportFault, ResultVar, esrt_of, next_number, result_name,
-};
 use bench_model::{Board, Device, Devices, Digests, is_device_name};
 use cu_base::{DevState, EfiStatus, EfiTime, Guid, Items, NoMemory, Text};
+use report_tables::{
+    Esrt, EsrtEntry, FmpResult, ReportFault, ResultVar, esrt_of, next_number, result_name,
+};
 use std::process::Abort;
 use std::test::Fail;
 

@@ -1,6 +1,6 @@
 use Rattle.std.proofs.Common.{◌≡◌, take}
 use Rattle.bench_model.specs.Devices.{capacity_of}
-use Rattle.report_tables.proofs.tests.board.Given as goal
+use Rattle.play_tests.proofs.reports.board.Given as goal
 
 -- the capacities so far
 abbrev pub invariant-loop-device : goal.invariant-loop-device
