@@ -4,7 +4,8 @@ use Rattle.std.proofs.Common.{◌&&◌, ◌||◌, max, Bool, true, false, cond, 
 use Rattle.std.proofs.Common.{filter, length, refl, arith}
 use native.Mathlib.Numerals.{unary_clauses}
 use Rattle.std.specs.List.{list_any}
-use Rattle.reference_machine.specs.Spent.{Element, is_on, is_sealed, greatest, sealed_floors}
+use Rattle.reference_machine.specs.Spent.{Element, is_on, is_sealed, sealed_floors}
+use Rattle.report_tables.specs.Entries.{greatest}
 
 -- one number more
 pub greatest_more : (n m : ℕ) (ms : List ℕ) → greatest (max n m) ms ≡ max m (greatest n ms)

@@ -1,5 +1,6 @@
 use Rattle.std.proofs.Common.{◌≡◌, drop}
-use Rattle.reference_machine.specs.Spent.{floor_of, greatest, sealed_floors}
+use Rattle.reference_machine.specs.Spent.{floor_of, sealed_floors}
+use Rattle.report_tables.specs.Entries.{greatest}
 use Rattle.reset_play.proofs.thin_play.spent.floor_in_force.Given as goal
 
 -- the floor so far, with the floors of the attempts that are left, is that in force
