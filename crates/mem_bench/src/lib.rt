@@ -3,6 +3,7 @@
 #![tactic(auto)]
 
 mod bench;
+mod blocks;
 mod clerk;
 mod factory;
 mod flash;
@@ -12,6 +13,7 @@ mod order_book;
 mod orders;
 mod region;
 mod reset;
+mod room;
 mod stored_file;
 #[cfg(test)]
 mod tests;
