@@ -1,4 +1,5 @@
--- A region seen through the table of its blocks: what a write of one block and a further block leave.
+-- A region seen through the table of its blocks: what a write of one block leaves, and a further
+-- block.
 use Rattle.std.proofs.Common.{◌≡◌, ◌≢◌, ◌⊎◌, inl, inr, ℕ, ◌+◌, ◌-◌, ◌*◌, ◌/◌, ◌%◌, ◌<◌, ◌≤◌}
 use Rattle.std.proofs.Common.{List, ◌++◌, length, get_or, replicate, sum_by, refl, sym, ◌∙◌, ap}
 use Rattle.std.proofs.Common.{arith}
@@ -130,8 +131,8 @@ module _ {A : Type 0} (blank : A) (size : ℕ) (table : List ℕ) (made : ℕ) (
       ])
 
 -- places of blocks that are kept stay where further ones follow
-lengthened_item : {A : Type 0} (blank : A) (items more : List A) (made m inside : ℕ) → inside < BLOCK
-    → m ≤ made → length items ≡ made * BLOCK
+lengthened_item : {A : Type 0} (blank : A) (items more : List A) (made m inside : ℕ)
+    → inside < BLOCK → m ≤ made → length items ≡ made * BLOCK
     → item_in blank (items ++ more) m inside ≡ item_in blank items m inside
 lengthened_item blank items more made m inside below le kept =
     elim (eq-zero-or-pos m) [
@@ -143,8 +144,8 @@ lengthened_item blank items more made m inside below le kept =
     ]
 
 -- a block that is kept first, with blank places, changes nothing of the region
-module _ (table : List ℕ) (made block : ℕ) (rule : IsTable table made) (there : block < length table)
-    (none : get_or table block 0 ≡ 0) where
+module _ (table : List ℕ) (made block : ℕ) (rule : IsTable table made)
+    (there : block < length table) (none : get_or table block 0 ≡ 0) where
   -- the table has a block that is not kept
   pub blank_left : made + 1 ≤ length table
   blank_left =
@@ -170,7 +171,8 @@ module _ (table : List ℕ) (made block : ℕ) (rule : IsTable table made) (ther
   IsTable-set = record {
     count = (
         let counted : sum_by one_if_blank (set table block (made + 1))
-        + one_if_blank (get_or table block 0) ≡ sum_by one_if_blank table + one_if_blank (made + 1) =
+        + one_if_blank (get_or table block 0)
+        ≡ sum_by one_if_blank table + one_if_blank (made + 1) =
         sum_by-set one_if_blank table block (made + 1) 0 there in
         let one : one_if_blank (get_or table block 0) ≡ 1 = rw none refl in
         let no : one_if_blank (made + 1) ≡ 0 = grind arith in

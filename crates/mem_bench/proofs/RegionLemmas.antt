@@ -1,7 +1,7 @@
 -- What is put into a list, and one region of many.
-use Rattle.std.proofs.Common.{◌≡◌, ◌≢◌, inl, inr, ℕ, ◌+◌, ◌-◌, ◌<◌, ◌≤◌, Bool, true, false, List, []}
+use Rattle.std.proofs.Common.{◌≡◌, ◌≢◌, inl, inr, ℕ, ◌+◌, ◌-◌, ◌<◌, ◌≤◌, Bool, true, false, List}
 use Rattle.std.proofs.Common.{◌∷◌, ◌++◌, length, get_or, take, drop, replicate, refl, sym, ◌∙◌, ap}
-use Rattle.std.proofs.Common.{subst, arith, length-append, length-take, length-drop, append_assoc}
+use Rattle.std.proofs.Common.{[], subst, arith, length-append, length-take, length-drop, append_assoc}
 use Rattle.std.specs.Prelude.{slice_set}
 use Rattle.std.proofs.lemmas.List.{length-replicate, get_or_read, get_or-set_same, take_at, drop_at}
 use Rattle.std.proofs.lemmas.List.{append-nil, places, replicate-append-replicate, same_lists}

@@ -1,6 +1,7 @@
 -- What is kept of a region after a write, a sync and a further block.
 use Rattle.std.proofs.Common.{◌≡◌, ◌⊎◌, inl, inr, ℕ, ◌+◌, ◌-◌, ◌<◌, ◌≤◌, Bool, true, false, List}
-use Rattle.std.proofs.Common.{length, get_or, take, drop, replicate, refl, sym, ◌∙◌, ap, subst, arith}
+use Rattle.std.proofs.Common.{length, get_or, take, drop, replicate, refl, sym, ◌∙◌, ap, subst}
+use Rattle.std.proofs.Common.{arith}
 use Rattle.std.proofs.Common.{length-append, length-drop}
 use Rattle.std.proofs.lemmas.Bool.{cases_lt, false≢true}
 use Rattle.std.proofs.lemmas.List.{get_or-append_right, get_or-drop, get_or-replicate, get_or-take}
@@ -86,12 +87,14 @@ module _ (r : RegionValue) (low high : ℕ) (rule : IsRoom r low high) where
               ∙ get_or-take (high - low) (drop low r.bytes) (k - low) 0 (omega arith)
               ∙ get_or-drop low r.bytes (k - low) 0
               ∙ ap (λ (j : ℕ). get_or r.bytes j 0) (omega arith)
-          | inr le ↦ overlaid_outside r.synced low part fits k 0 (inr (omega (arith, n, rule.order)))
+          | inr le ↦ overlaid_outside r.synced low part fits k 0
+              (inr (omega (arith, n, rule.order)))
               ∙ rule.last k (rule.clean k (inr le))
         ]
       ])
 
-  clean_there : (part : List Bool) → low + length part ≤ length r.marks → part ≡ replicate (high - low) false
+  clean_there : (part : List Bool) → low + length part ≤ length r.marks
+      → part ≡ replicate (high - low) false
       → length part ≡ high - low
       → (k : ℕ) → get_or (overlaid low part r.marks) k false ≡ false
   clean_there part fits is n k = elim (cases_lt k low) [
@@ -132,7 +135,8 @@ module _ (r : RegionValue) (low high : ℕ) (rule : IsRoom r low high) where
         overlaid_outside r.marks at (replicate (length bytes) true) marks_fit k false
         (subst (λ (n : ℕ). IsOutside at n k) (sym (length-replicate (length bytes) true)) out)
 
-    still_last : (k : ℕ) → get_or (overlaid at (replicate (length bytes) true) r.marks) k false ≡ false
+    still_last : (k : ℕ)
+        → get_or (overlaid at (replicate (length bytes) true) r.marks) k false ≡ false
         → IsOutside at (length bytes) k
         → get_or r.synced k 0 ≡ get_or (overlaid at bytes r.bytes) k 0
     still_last k none out =

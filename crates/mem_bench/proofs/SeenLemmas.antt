@@ -156,13 +156,15 @@ pub keep_seen : (size : ℕ) (table : List ℕ) (made block : ℕ) → IsTable t
     → seen_through size (set table block (made + 1)) (lengthened BLOCK kept)
     ≡ seen_through size table kept
 keep_seen size table made block rule there none kept whole long =
-    let bytes : through BLANK size (set table block (made + 1)) (kept.bytes ++ replicate BLOCK BLANK)
+    let bytes : through BLANK size (set table block (made + 1))
+    (kept.bytes ++ replicate BLOCK BLANK)
     ≡ through BLANK size table kept.bytes =
     block_kept table made block rule there none BLANK size kept.bytes long in
     let synced : through BLANK size (set table block (made + 1))
     (kept.synced ++ replicate BLOCK BLANK) ≡ through BLANK size table kept.synced =
     block_kept table made block rule there none BLANK size kept.synced (whole.synced ∙ long) in
-    let marks : through false size (set table block (made + 1)) (kept.marks ++ replicate BLOCK false)
+    let marks : through false size (set table block (made + 1))
+    (kept.marks ++ replicate BLOCK false)
     ≡ through false size table kept.marks =
     block_kept table made block rule there none false size kept.marks (whole.marks ∙ long) in
     λ i. record { bytes = bytes i; synced = synced i; marks = marks i }
@@ -241,7 +243,8 @@ seen_long size table kept = through_long BLANK size table kept.bytes
 pub IsRegion-seen : (size : ℕ) (table : List ℕ) (kept : RegionValue)
     → IsRegion (seen_through size table kept)
 IsRegion-seen size table kept = record {
-  synced = through_long BLANK size table kept.synced ∙ sym (through_long BLANK size table kept.bytes);
+  synced = through_long BLANK size table kept.synced
+      ∙ sym (through_long BLANK size table kept.bytes);
   marks = through_long false size table kept.marks ∙ sym (through_long BLANK size table kept.bytes);
 }
 

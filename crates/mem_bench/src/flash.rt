@@ -1,6 +1,7 @@
 ghost use Rattle.std.specs.Prelude.{◌≡◌, false, length, OnOk, OnErr};
 ghost use Rattle.bench_model.specs.Bench.{ChangesCounts, ChangesRegion, CountsMove, FlashCause};
-ghost use Rattle.bench_model.specs.Bench.{FlashFollows, HasRegion, IsRegionStable, IsWithin, MayWrite};
+ghost use Rattle.bench_model.specs.Bench.{FlashFollows, HasRegion, IsRegionStable, IsWithin};
+ghost use Rattle.bench_model.specs.Bench.{MayWrite};
 ghost use Rattle.bench_model.specs.Bench.{RegionReads, RegionSyncs, RegionWrites};
 ghost use Rattle.bench_model.specs.Plans.{has_no_power};
 ghost use Rattle.mem_bench.specs.Regions.{written};

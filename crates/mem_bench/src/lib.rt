@@ -15,9 +15,8 @@ mod region;
 mod reset;
 mod room;
 mod stored_file;
-#[cfg(test)]
-mod tests;
 mod tickets;
+mod told;
 mod volume;
 
 pub use bench::MemBench;

@@ -50,7 +50,8 @@ impl Bench for MemBench {
 
     fn arm(&mut self, after: u32, choice: Choice)
         requires { HasOrderRoom (state_of self.old) }
-        ensures frame { OrdersOnly (Order.Arm after choice) (state_of self.old) (state_of self.new) }
+        ensures frame { OrdersOnly (Order.Arm after choice) (state_of self.old)
+            (state_of self.new) }
         ensures plan { (state_of self.new).plan
             ≡ option_map (with_arm after choice) (state_of self.old).plan }
     {

@@ -59,7 +59,8 @@ impl Region {
     pub fn write(&mut self, at: u32, bytes: &[u8])
         requires { at + length bytes.now ≤ length self.old.bytes }
         ensures written { self.new ≡ written at bytes.now self.old }
-        ensures writes { Writes at (length bytes.now) (told_region self.old) (told_region self.new) }
+        ensures writes { Writes at (length bytes.now) (told_region self.old)
+            (told_region self.new) }
         ensures reads { field self.new.bytes at (length bytes.now) ≡ bytes.now }
     {
         self.blocks.write(at as usize, bytes);

@@ -15,9 +15,9 @@ pub const BLANK: u8 = 0xFF;
 /// How many places a block of a region has.
 pub const BLOCK: usize = 4096;
 
-/// Room for the blocks of a region that were written. Its memory is asked for once, when it is made;
-/// the system gives the pages of it as they are first touched. Contracts see what it keeps, and how
-/// many places it has room for.
+/// Room for the blocks of a region that were written. Its memory is asked for once, when it is
+/// made; the system gives the pages of it as they are first touched. Contracts see what it keeps,
+/// and how many places it has room for.
 #[derive(Drop)]
 pub struct Room {
     bytes: Vec<u8>,

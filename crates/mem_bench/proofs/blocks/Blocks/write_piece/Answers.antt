@@ -9,8 +9,10 @@ pub returns-clause-written : goal.returns-clause-written
 returns-clause-written c = λ size within.
     ap (λ (r : RoomValue). seen_through size c.keep-start.new.self.table.items r.kept)
     c.write.ensures.value
-    ∙ piece_seen size c.keep-start.new.self.table.items c.keep-start.new.self.made c.keep-start.new.self.rule
+    ∙ piece_seen size c.keep-start.new.self.table.items c.keep-start.new.self.made
+    c.keep-start.new.self.rule
     c.keep-start.new.self.room.kept c.write.ensures.rule c.keep-start.new.self.kept c.args.place
     (c.keep-start.result + c.args.place % BLOCK) c.args.bytes.now c.keep-start.ensures.kept
     (omega (arith, c.keep-start.ensures.value)) c.requires.inside within
-    ∙ ap (λ (v : RegionValue). written c.args.place c.args.bytes.now v) (c.keep-start.ensures.same size)
+    ∙ ap (λ (v : RegionValue). written c.args.place c.args.bytes.now v)
+    (c.keep-start.ensures.same size)

@@ -1,4 +1,5 @@
-use Rattle.std.proofs.Common.{◌≡◌, ◌-◌, List, ℕ, false, length, take, drop, replicate, ◌∙◌, ap, arith}
+use Rattle.std.proofs.Common.{◌≡◌, ◌-◌, List, ℕ, false, length, take, drop, replicate, ◌∙◌, ap}
+use Rattle.std.proofs.Common.{arith}
 use Rattle.mem_bench.specs.Regions.{RegionValue, overlaid}
 use Rattle.mem_bench.proofs.RoomLemmas.{IsRoom-stable, marks_whole, synced_whole}
 use Rattle.mem_bench.proofs.room.Room.sync.Goals as goal
