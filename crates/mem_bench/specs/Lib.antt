@@ -1,5 +1,7 @@
+pub mod Blocks
 pub mod Folders
 pub mod Parts
 pub mod Quiet
 pub mod Regions
 pub mod State
+pub mod Tables

@@ -1,7 +1,7 @@
 -- A region in memory: the bytes as read, those at its last sync, and the places that were written
 -- since.
-use Rattle.std.specs.Prelude.{◌≡◌, ℕ, ◌+◌, ◌%◌, ◌<◌, ◌==◌, Bool, true, false, List, [], ◌++◌}
-use Rattle.std.specs.Prelude.{length, take, drop, replicate, get_or, Option, Some, None}
+use Rattle.std.specs.Prelude.{◌≡◌, ◌⊎◌, ℕ, ◌+◌, ◌%◌, ◌<◌, ◌≤◌, ◌==◌, Bool, true, false, List, []}
+use Rattle.std.specs.Prelude.{◌++◌, length, take, drop, replicate, get_or, Option, Some, None}
 use Rattle.std.specs.Prelude.{if◌then◌else◌}
 use Rattle.bench_model.specs.declared.choice.Choice.{Choice}
 use Rattle.bench_model.specs.declared.choice.Choice.TheVariants.{New, Old, Mix, Fill}
@@ -17,6 +17,11 @@ pub record RegionValue : Type 0 where
 abbrev pub no_region : RegionValue
 no_region = record { bytes = []; synced = []; marks = [] }
 
+-- what a region keeps of its blocks, and how many places there is room for
+pub record RoomValue : Type 0 where
+  pub kept : RegionValue
+  pub most : ℕ
+
 -- all places are there in all three
 pub record IsRegion (r : RegionValue) : Type 0 where
   pub synced : length r.synced ≡ length r.bytes
@@ -25,6 +30,30 @@ pub record IsRegion (r : RegionValue) : Type 0 where
 -- items put into a list from a place on
 abbrev pub overlaid : {A : Type 0} → ℕ → List A → List A → List A
 overlaid at items old = take at old ++ items ++ drop (at + length items) old
+
+-- the region after a write: the bytes stand from the place on, which makes their places dirty
+abbrev pub written : ℕ → List ℕ → RegionValue → RegionValue
+written at bytes r = record r {
+  bytes = overlaid at bytes r.bytes;
+  marks = overlaid at (replicate (length bytes) true) r.marks;
+}
+
+-- with so many blank places more, none of them dirty
+abbrev pub lengthened : ℕ → RegionValue → RegionValue
+lengthened n r = record {
+  bytes = r.bytes ++ replicate n 255;
+  synced = r.synced ++ replicate n 255;
+  marks = r.marks ++ replicate n false;
+}
+
+-- what is kept, where all dirty places lie from `low` on and before `high`: a place that is not
+-- dirty reads as at the last sync
+pub record IsRoom (r : RegionValue) (low high : ℕ) : Type 0 where
+  pub rule : IsRegion r
+  pub order : low ≤ high
+  pub within : high ≤ length r.bytes
+  pub clean : (k : ℕ) → (k < low) ⊎ (high ≤ k) → get_or r.marks k false ≡ false
+  pub last : (k : ℕ) → get_or r.marks k false ≡ false → get_or r.synced k 0 ≡ get_or r.bytes k 0
 
 -- a region whose bytes are stable
 abbrev pub stable_region : List ℕ → RegionValue

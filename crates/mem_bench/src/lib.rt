@@ -3,6 +3,7 @@
 #![tactic(auto)]
 
 mod bench;
+mod blocks;
 mod clerk;
 mod factory;
 mod flash;
@@ -12,10 +13,10 @@ mod order_book;
 mod orders;
 mod region;
 mod reset;
+mod room;
 mod stored_file;
-#[cfg(test)]
-mod tests;
 mod tickets;
+mod told;
 mod volume;
 
 pub use bench::MemBench;

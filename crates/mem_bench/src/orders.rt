@@ -1,3 +1,8 @@
+ghost use Rattle.std.specs.Prelude.{◌≡◌, option_map};
+ghost use Rattle.bench_model.specs.Bench.{Cycles, HasOrderRoom, OrdersOnly};
+ghost use Rattle.bench_model.specs.Plans.{with_arm, with_fail};
+ghost use Rattle.mem_bench.specs.State.{LeavesRegions, state_of};
+
 use crate::MemBench;
 use crate::factory::{first_regions, first_tickets};
 use crate::folder::Folder;
@@ -43,17 +48,32 @@ impl Bench for MemBench {
         Ok(())
     }
 
-    fn arm(&mut self, after: u32, choice: Choice) {
+    fn arm(&mut self, after: u32, choice: Choice)
+        requires { HasOrderRoom (state_of self.old) }
+        ensures frame { OrdersOnly (Order.Arm after choice) (state_of self.old)
+            (state_of self.new) }
+        ensures plan { (state_of self.new).plan
+            ≡ option_map (with_arm after choice) (state_of self.old).plan }
+    {
         self.keep(Order::Arm { after, choice });
         self.clerk.plan.armed = Some(Armed { after, choice });
     }
 
-    fn fail(&mut self, nth: u32) {
+    fn fail(&mut self, nth: u32)
+        requires { HasOrderRoom (state_of self.old) }
+        ensures frame { OrdersOnly (Order.Fail nth) (state_of self.old) (state_of self.new) }
+        ensures plan { (state_of self.new).plan
+            ≡ option_map (with_fail nth) (state_of self.old).plan }
+    {
         self.keep(Order::Fail { nth });
         self.clerk.plan.failing = Some(nth);
     }
 
-    fn cycle(&mut self, cold: bool) {
+    fn cycle(&mut self, cold: bool)
+        requires { HasOrderRoom (state_of self.old) }
+        ensures ok { Cycles cold (state_of self.old) (state_of self.new) }
+        ensures kept { LeavesRegions cold self.old self.new }
+    {
         self.keep(Order::Cycle { cold });
         let cut = self.clerk.plan.off;
         if cold || cut.is_some() {

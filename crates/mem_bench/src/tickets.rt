@@ -1,4 +1,4 @@
-ghost use Rattle.std.specs.Prelude.{◌≡◌, ◌-◌, ◌≤◌, [], ◌∷◌, ◌++◌, length, max, OnOk, OnErr, IsOk};
+ghost use Rattle.std.specs.Prelude.{◌≡◌, ◌-◌, ◌≤◌, [], ◌∷◌, ◌++◌, max, OnOk, OnErr, IsOk};
 
 use cu_base::{Items, NoMemory, Ticket};
 use std::alloc::Global;
@@ -34,12 +34,11 @@ impl Tickets {
         }
     }
 
-    /// How many were begun.
-    #[cfg(test)]
-    pub fn len(&self) -> usize
-        ensures { result ≡ length self.now.begun }
+    /// The tickets that were begun, in order.
+    pub fn as_slice(&self) -> &[Ticket]
+        ensures { result.now ≡ self.now.begun }
     {
-        self.begun.len()
+        self.begun.as_slice()
     }
 
     /// Makes room for one more.

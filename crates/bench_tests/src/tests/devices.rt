@@ -1,9 +1,9 @@
 //! Cases of the updates of a device.
 
 use super::{arm, bench, cycle, fail};
-use crate::MemBench;
 use bench_model::{Choice, Flash};
 use cu_base::{Failed, Ticket};
+use mem_bench::MemBench;
 use std::process::Abort;
 use std::test::Fail;
 
@@ -42,19 +42,20 @@ fn front(rt: &impl Abort, bench: &mut MemBench, region: u32, out: &mut [u8]) -> 
 }
 
 /// How often device 0 was begun.
-fn begun(bench: &MemBench) -> Option<usize> {
-    bench.devices.get(0).map(|tickets| tickets.len())
+fn begun(rt: &impl Abort, bench: &MemBench) -> usize {
+    assert!(rt; bench.regions() > DEVICE, "a device");
+    bench.begun(0).len()
 }
 
 #[test]
 fn a_begin_is_recorded_and_an_end_closes_the_device(rt: HostRuntime) -> Result<(), Fail> {
     let mut bench = bench(&rt)?;
     assert_eq!(rt; begin(&rt, &mut bench), Ok(()));
-    assert_eq!(rt; begun(&bench), Some(1));
-    assert_eq!(rt; bench.open_device, Some(0));
+    assert_eq!(rt; begun(&rt, &bench), 1);
+    assert_eq!(rt; bench.open_device(), Some(0));
     assert_eq!(rt; end(&rt, &mut bench), Ok(()));
-    assert_eq!(rt; bench.open_device, None);
-    assert_eq!(rt; begun(&bench), Some(1));
+    assert_eq!(rt; bench.open_device(), None);
+    assert_eq!(rt; begun(&rt, &bench), 1);
     Ok(())
 }
 
@@ -66,8 +67,8 @@ fn a_begin_that_is_struck_is_not_recorded(rt: HostRuntime) -> Result<(), Fail> {
     arm(&rt, &mut bench, 0, Choice::New);
     assert_eq!(rt; begin(&rt, &mut bench), Err(Failed), "a cut");
     cycle(&rt, &mut bench, true);
-    assert_eq!(rt; begun(&bench), Some(0));
-    assert_eq!(rt; bench.open_device, None);
+    assert_eq!(rt; begun(&rt, &bench), 0);
+    assert_eq!(rt; bench.open_device(), None);
     Ok(())
 }
 
@@ -77,9 +78,9 @@ fn an_end_that_is_struck_leaves_the_device_open(rt: HostRuntime) -> Result<(), F
     assert_eq!(rt; begin(&rt, &mut bench), Ok(()));
     fail(&rt, &mut bench, 1);
     assert_eq!(rt; end(&rt, &mut bench), Err(Failed));
-    assert_eq!(rt; bench.open_device, Some(0));
+    assert_eq!(rt; bench.open_device(), Some(0));
     cycle(&rt, &mut bench, false);
-    assert_eq!(rt; bench.open_device, None, "a cycle ends it");
+    assert_eq!(rt; bench.open_device(), None, "a cycle ends it");
     Ok(())
 }
 

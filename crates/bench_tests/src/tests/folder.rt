@@ -1,9 +1,9 @@
 //! Cases of the folder and of the memory.
 
 use super::{arm, bench, cycle, fail};
-use crate::MemBench;
 use bench_model::{Bench, Choice, LayFault, PhysMem, Segments, Volume, VolumeFault, is_file_name};
 use cu_base::{Failed, NoMemory, Text};
+use mem_bench::MemBench;
 use std::process::Abort;
 use std::test::Fail;
 
@@ -38,7 +38,7 @@ fn only_file(
 
 /// Takes a file out of the folder.
 fn remove(rt: &impl Abort, bench: &mut MemBench, serial: u64) -> Result<(), Failed> {
-    assert!(rt; bench.folder.has_serial(serial), "a file");
+    assert!(rt; bench.has_file(serial), "a file");
     bench.remove(serial)
 }
 

@@ -1,6 +1,6 @@
 use Rattle.std.proofs.Common.{◌≡◌, ℕ, ◌<◌, ◌≤◌, false, get_or, if◌then◌else◌}
 use Rattle.mem_bench.specs.Regions.{byte_after}
-use Rattle.mem_bench.proofs.region.choose.Given as goal
+use Rattle.mem_bench.proofs.room.choose.Given as goal
 
 abbrev pub invariant-loop-k : goal.invariant-loop-k
 invariant-loop-k l = record {

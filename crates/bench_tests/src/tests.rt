@@ -3,9 +3,9 @@
 mod devices;
 mod folder;
 
-use crate::MemBench;
 use bench_model::{Bench, Board, Choice, Device, Devices, Digests, Flash, is_device_name};
 use cu_base::{Failed, Guid, NoMemory, Text};
+use mem_bench::MemBench;
 use std::process::Abort;
 use std::test::Fail;
 
@@ -69,20 +69,20 @@ fn byte(rt: &impl Abort, bench: &mut MemBench, at: u32) -> Result<u8, Failed> {
 
 /// Orders a power cut.
 fn arm(rt: &impl Abort, bench: &mut MemBench, after: u32, choice: Choice) {
-    assert!(rt; bench.orders.room() > 0, "room for an order");
+    assert!(rt; bench.order_room() > 0, "room for an order");
     bench.arm(after, choice);
 }
 
 /// Orders a fault.
 fn fail(rt: &impl Abort, bench: &mut MemBench, nth: u32) {
-    assert!(rt; bench.orders.room() > 0, "room for an order");
+    assert!(rt; bench.order_room() > 0, "room for an order");
     assert!(rt; nth > 0, "calls count from 1");
     bench.fail(nth);
 }
 
 /// Resets the platform.
 fn cycle(rt: &impl Abort, bench: &mut MemBench, cold: bool) {
-    assert!(rt; bench.orders.room() > 0, "room for an order");
+    assert!(rt; bench.order_room() > 0, "room for an order");
     bench.cycle(cold);
 }
 
@@ -218,11 +218,11 @@ fn calls_without_power_count_and_do_nothing_else(rt: HostRuntime) -> Result<(), 
     let mut bench = bench(&rt)?;
     arm(&rt, &mut bench, 0, Choice::New);
     assert_eq!(rt; sync(&rt, &mut bench), Err(Failed));
-    let before = bench.clerk.counts;
+    let before = bench.counts();
     assert_eq!(rt; write(&rt, &mut bench, EVEN, &[0x41]), Err(Failed));
     assert_eq!(rt; sync(&rt, &mut bench), Err(Failed));
     assert_eq!(rt; byte(&rt, &mut bench, EVEN), Err(Failed));
-    let after = bench.clerk.counts;
+    let after = bench.counts();
     assert_eq!(rt; after.moves, before.moves.saturating_add(2));
     assert_eq!(rt; after.looks, before.looks.saturating_add(1));
     assert_eq!(rt; after.flash_faults, before.flash_faults.saturating_add(3));
