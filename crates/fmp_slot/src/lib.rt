@@ -16,6 +16,8 @@ mod one_bank;
 mod pieces;
 mod slot;
 mod steps;
+#[cfg(test)]
+mod tests;
 mod writer;
 
 pub use faults::SlotFault;
