@@ -159,4 +159,7 @@ pub trait SlotForm {
             (F.state flash.new) }
         ensures counts { SpendsUpTo 4 1 result (F.state flash.old) (F.state flash.new) }
         ensures cause { SlotCause (F.state flash.old) (F.state flash.new) result };
+
+    /// A region for a payload of a byte or more is longer than one for none.
+    ghost grows: { (capacity : ℕ) → 1 ≤ capacity → size_of 0 + 1 ≤ size_of capacity };
 }

@@ -21,6 +21,8 @@ use bench_model::{Flash, SLOT_LEAD};
 pub struct OneBank;
 
 impl SlotForm for OneBank {
+    ghost use Rattle.std.proofs.Math.Nat.{add-le-add, le-add_left};
+    ghost use Rattle.bench_model.specs.declared.outside_limits.TheConstants.{SLOT_LEAD};
     ghost use Rattle.fmp_slot.specs.Layout.{region_bytes};
     ghost use Rattle.fmp_slot.specs.Layout as layout;
     ghost use Rattle.fmp_slot.specs.Writers.{writing_of, is_underway, places_of};
@@ -80,6 +82,8 @@ impl SlotForm for OneBank {
     fn seal<F: Flash>(&self, flash: &mut F, writer: SlotWriter) -> Result<(), SlotFault> {
         writer.seal(flash)
     }
+
+    ghost grows = { λ capacity some. add-le-add (le-add_left SLOT_LEAD 0) some };
 }
 
 /// What the slot of a device with one bank is: one look, at its head. Flash only where the flash

@@ -8,7 +8,9 @@ ghost use Rattle.mem_bench.specs.State.{state_of};
 ghost use Rattle.fmp_slot.specs.Held.{IsBegun, IsToldStable};
 
 use crate::{MAX_KEPT_SECTION, Slot, SlotFault, SlotHead, look, set_image};
-use bench_model::{Bench, Board, Choice, Device, Devices, Digests, Flash, SLOT_LEAD, is_device_name};
+use bench_model::{
+    Bench, Board, Choice, Device, Devices, Digests, Flash, SLOT_LEAD, is_device_name,
+};
 use cu_base::{Guid, NoMemory, Text, Ticket};
 use mem_bench::MemBench;
 use std::process::Abort;
@@ -63,7 +65,11 @@ fn board(rt: &(impl Abort + AllocGlobal), capacity: u32) -> Result<Board, NoMemo
 /// The head of the image that is set.
 fn head(length: u32, dep_length: u32) -> SlotHead
     ensures { result ≡ record {
-      ticket = TICKET; version = 4; floor = 3; length = length; dep_length = dep_length;
+      ticket = TICKET;
+      version = 4;
+      floor = 3;
+      length = length;
+      dep_length = dep_length;
     } }
 {
     SlotHead {
@@ -155,14 +161,21 @@ fn payloads_and_sections_of_each_length(rt: HostRuntime) -> Result<(), Fail> {
         ("one byte", &payload[..1], &dep[..1]),
         ("a whole piece", &payload[..65_536], &dep[..4_096]),
         ("a byte more than a piece", &payload[..65_537], &dep[..0]),
-        ("all that there is room for", &payload[..65_600], &dep[..4_095]),
+        (
+            "all that there is room for",
+            &payload[..65_600],
+            &dep[..4_095],
+        ),
     ] {
         let (mut bench, told) = set(&rt, 65_600, NEVER, Choice::Old, dep, payload)?;
         assert_eq!(rt; told, Ok(()), "{name}");
         let want = head(payload.len() as u32, dep.len() as u32);
         assert_eq!(rt; slot(&rt, &mut bench), Ok(Slot::Sealed(want)), "{name}");
         assert!(rt; reads(&rt, &mut bench, 64, dep), "{name}, section");
-        assert!(rt; reads(&rt, &mut bench, SLOT_LEAD, payload), "{name}, payload");
+        assert!(rt;
+            reads(&rt, &mut bench, SLOT_LEAD, payload),
+            "{name}, payload"
+        );
     }
     let (mut bench, told) = set(&rt, 65_600, NEVER, Choice::Old, &[], &payload)?;
     assert_eq!(rt; told, Err(SlotFault::TooLarge));
@@ -199,10 +212,18 @@ fn a_section_above_the_limit(rt: HostRuntime) -> Result<(), Fail> {
         \x04\0\0\0\x03\0\0\0\x10\0\0\0\x01\x10\0\0\0\0\0\0\0\0\0\0\0\0\0\0\0\0\0\0\0\0\0\0\0\0\0\0";
     assert_eq!(rt; slot_of(&rt, &bytes)?, Slot::Unsealed, "4,097 bytes");
     bytes[36] = 0;
-    assert_eq!(rt; slot_of(&rt, &bytes)?, Slot::Sealed(head(16, 4_096)), "4,096 bytes");
+    assert_eq!(rt;
+        slot_of(&rt, &bytes)?,
+        Slot::Sealed(head(16, 4_096)),
+        "4,096 bytes"
+    );
     bytes[36] = 1;
     bytes[4] = 1;
-    assert_eq!(rt; slot_of(&rt, &bytes)?, Slot::Sealed(head(16, 0)), "format 1 has no section");
+    assert_eq!(rt;
+        slot_of(&rt, &bytes)?,
+        Slot::Sealed(head(16, 0)),
+        "format 1 has no section"
+    );
     Ok(())
 }
 
@@ -236,7 +257,11 @@ fn a_cut_at_each_move(rt: HostRuntime) -> Result<(), Fail> {
     ];
     // The byte at 0 is at an even place, so `Mix` keeps what was synced.
     for (move_, name, wants) in [
-        (0, "the seal is written over", [Open, Before, Before, Before, Open]),
+        (
+            0,
+            "the seal is written over",
+            [Open, Before, Before, Before, Open],
+        ),
         (1, "and synced", [Open, Before, Before, Before, Open]),
         (2, "the payload is written", [Open; 5]),
         (3, "the front is written", [Open; 5]),

@@ -1,4 +1,4 @@
-use Rattle.std.proofs.Common.{◌≡◌, ◌∙◌, ap}
+use Rattle.std.proofs.Common.{◌∙◌, ap}
 use Rattle.bench_model.specs.Bench.{BenchValue, Contents}
 use Rattle.fmp_slot.proofs.tests.begun.Goals as goal
 
