@@ -9,6 +9,7 @@
 
 mod faults;
 mod form;
+pub mod laws;
 mod layout;
 mod limits;
 mod moves;
