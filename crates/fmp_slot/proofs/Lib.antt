@@ -1,0 +1,5 @@
+mod Fronts
+mod Looks
+mod Payloads
+mod Received
+mod SlotImages
