@@ -1,0 +1,89 @@
+-- The two banks of a flash, and the store that their bytes are (own format). A bank begins with a
+-- gate, the name 'CUV', the format (u32) and the generation (u64). Records follow from place 16.
+use Rattle.std.specs.Prelude.{◌≡◌, ℕ, ◌+◌, ◌-◌, ◌==◌, ◌&&◌, ◌||◌, Bool, List, [], ◌∷◌, ◌++◌, length}
+use Rattle.std.specs.Prelude.{drop, get_or, fold, Option, Some, None, option_map, unwrap_or, nat_lt}
+use Rattle.std.specs.Prelude.{if◌then◌else◌}
+use Rattle.std.specs.List.{flat_map}
+use Rattle.std.specs.Str.{bytes_eq}
+use Rattle.cu_base.specs.Fields.{bytes_of, field, number_at}
+use Rattle.var_log.specs.declared.change.Change.{Change}
+use Rattle.var_log.specs.declared.limits.TheConstants.{OPEN_GATE}
+use Rattle.var_log.specs.Changes.{Variables, no_variables, after}
+use Rattle.var_log.specs.Records.{Entry, entries_in}
+
+-- the name that a bank carries, 'CUV'
+abbrev pub bank_name : List ℕ
+bank_name = 67 ∷ 85 ∷ 86 ∷ []
+
+-- a bank's header behind its gate
+abbrev pub behind_bank_gate : ℕ → ℕ → List ℕ
+behind_bank_gate format generation = bank_name ++ bytes_of 4 format ++ bytes_of 8 generation
+
+-- the format that a bank names
+abbrev pub format_of : List ℕ → ℕ
+format_of bytes = number_at bytes 4 4
+
+-- the generation that a bank names
+abbrev pub generation_of : List ℕ → ℕ
+generation_of bytes = number_at bytes 8 8
+
+-- a bank is open where its gate is, and the name and a known format stand there
+abbrev pub is_open : List ℕ → Bool
+is_open bytes =
+    get_or bytes 0 0 == OPEN_GATE && bytes_eq (field bytes 1 3) bank_name
+    && (format_of bytes == 1 || format_of bytes == 2)
+
+-- which bank the log is in: the open one of the greater generation, bank 0 where they are equal
+abbrev pub log_bank : List ℕ → List ℕ → Option ℕ
+log_bank first second =
+    if is_open first
+    then (if is_open second && nat_lt (generation_of first) (generation_of second) then Some 1 else Some 0)
+    else (if is_open second then Some 1 else None)
+
+-- the records of a bank
+abbrev pub entries_of : List ℕ → List Entry
+entries_of bytes = entries_in (length bytes) (format_of bytes) None (drop 16 bytes)
+
+-- the bytes that records take
+abbrev pub taken : List Entry → ℕ
+taken [] = 0
+taken (e ∷ es) = e.size + taken es
+
+-- the place at which the records of a bank end
+abbrev pub end_of : List ℕ → ℕ
+end_of bytes = 16 + taken (entries_of bytes)
+
+-- the number of the last of these records, or what there was before
+abbrev pub last_of : Option ℕ → List Entry → Option ℕ
+last_of = fold (λ before e. Some e.number)
+
+-- a store: the variables, the number of the last batch, and the generation of the bank
+pub record StoreValue : Type 0 where
+  pub variables : Variables
+  pub seq : ℕ
+  pub generation : ℕ
+
+-- the store that a bank with an open header is
+abbrev pub store_in : List ℕ → StoreValue
+store_in bytes = record {
+  variables = after no_variables (flat_map (λ e. e.changes) (entries_of bytes));
+  seq = unwrap_or (last_of None (entries_of bytes)) 0;
+  generation = generation_of bytes;
+}
+
+-- one of the two banks
+abbrev pub bank_of : ℕ → List ℕ → List ℕ → List ℕ
+bank_of k first second = if k == 0 then first else second
+
+-- the store that two banks are, or none where neither is open
+unfoldable pub store_of : List ℕ → List ℕ → Option StoreValue
+store_of first second =
+    option_map (λ k. store_in (bank_of k first second)) (log_bank first second)
+
+-- a store once a batch was appended
+abbrev pub with_batch : StoreValue → List Change → StoreValue
+with_batch s changes = record {
+  variables = after s.variables changes;
+  seq = s.seq + 1;
+  generation = s.generation;
+}

@@ -1,0 +1,122 @@
+-- A log as it was opened, and the flash that it stands on.
+use Rattle.std.specs.Prelude.{◌≡◌, ◌⊎◌, ℕ, ◌+◌, ◌-◌, ◌<◌, ◌≤◌, ◌==◌, Bool, true, false, not, List, length}
+use Rattle.std.specs.Prelude.{get_or, Option, Some, None, option_map, unwrap_or, Result, Ok, Err}
+use Rattle.std.specs.Prelude.{if◌then◌else◌}
+use Rattle.bench_model.specs.declared.limits.TheConstants.{MIN_BANK, MAX_BANK}
+use Rattle.bench_model.specs.Bench.{BenchValue, Contents, AreImages, IsRegionStable}
+use Rattle.var_log.specs.declared.change.Change.{Change}
+use Rattle.var_log.specs.declared.fault.LogFault.{LogFault}
+use Rattle.var_log.specs.declared.fault.LogFault.TheVariants.{Flash, NoBank, Full, Stale, Memory}
+use Rattle.var_log.specs.declared.limits.TheConstants.{OPEN_GATE}
+use Rattle.var_log.specs.Banks.{StoreValue, bank_of, end_of, entries_of, format_of, generation_of}
+use Rattle.var_log.specs.Banks.{last_of, log_bank, store_of, with_batch}
+
+-- a log: the bank that it is in, where its records end, the bytes of a bank, the number of its last
+-- batch and its generation; whether the byte at its end is no open gate, and that at the front of
+-- the other bank one; the number of the batch in doubt; and whether the flash failed it
+pub record LogValue : Type 0 where
+  pub bank : ℕ
+  pub at : ℕ
+  pub size : ℕ
+  pub seq : ℕ
+  pub generation : ℕ
+  pub closed : Bool
+  pub other_gate : Bool
+  pub pending : Option ℕ
+  pub stale : Bool
+
+-- the bytes of records that can still be appended
+abbrev pub free_of : LogValue → ℕ
+free_of log = if log.closed then log.size - log.at - 1 else 0
+
+-- where a log is
+pub record IsLog (log : LogValue) : Type 0 where
+  pub bank : log.bank < 2
+  pub behind : 16 ≤ log.at
+  pub within : log.at < log.size
+  pub size : log.size ≤ MAX_BANK
+
+-- regions 0 and 1 are there, of one size within the limits of a bank
+pub record HasBanks (b : BenchValue) : Type 0 where
+  pub there : 2 ≤ b.contents.regions
+  pub same : length (b.contents.bytes 1) ≡ length (b.contents.bytes 0)
+  pub low : MIN_BANK ≤ length (b.contents.bytes 0)
+  pub high : length (b.contents.bytes 0) ≤ MAX_BANK
+
+-- the log is that of these two banks
+pub record IsLogOf (log : LogValue) (first second : List ℕ) : Type 0 where
+  pub bank : log_bank first second ≡ Some log.bank
+  pub format : format_of (bank_of log.bank first second) ≡ 2
+  pub seq : unwrap_or (last_of None (entries_of (bank_of log.bank first second))) 0 ≡ log.seq
+  pub generation : generation_of (bank_of log.bank first second) ≡ log.generation
+  pub ends : end_of (bank_of log.bank first second) ≡ log.at
+  pub closed : log.closed ≡ not (get_or (bank_of log.bank first second) log.at 0 == OPEN_GATE)
+  pub other : log.other_gate ≡ (get_or (bank_of log.bank second first) 0 0 == OPEN_GATE)
+
+-- what holds where the bytes of the flash are told
+pub record StandsWhereTold (log : LogValue) (b : BenchValue) : Type 0 where
+  pub first : IsRegionStable 0 b
+  pub second : IsRegionStable 1 b
+  pub log : IsLogOf log (b.contents.bytes 0) (b.contents.bytes 1)
+
+-- the log stands on the flash: its banks have the log's size, and where they are told they are not
+-- dirty, and their bytes are this log
+pub record StandsOn (log : LogValue) (b : BenchValue) : Type 0 where
+  pub size : length (b.contents.bytes 0) ≡ log.size
+  pub told : b.contents.told ≡ true → StandsWhereTold log b
+
+-- the log once a record of so many bytes was appended
+abbrev pub log_after : LogValue → ℕ → LogValue
+log_after log n = record log { at = log.at + n; seq = log.seq + 1; closed = true }
+
+-- the log once the flash failed an append
+abbrev pub in_doubt : LogValue → LogValue
+in_doubt log = record log { pending = Some (log.seq + 1); stale = true }
+
+-- the store of the banks as read
+abbrev pub store_as_read : BenchValue → Option StoreValue
+store_as_read b = store_of (b.contents.bytes 0) (b.contents.bytes 1)
+
+-- a store with one batch more
+abbrev pub store_with : List Change → Option StoreValue → Option StoreValue
+store_with changes = option_map (λ s. with_batch s changes)
+
+-- in each image the batch stands or not, wholly
+abbrev pub HasBatchOrNot : List Change → BenchValue → BenchValue → Type 0
+HasBatchOrNot changes old new =
+    (image : ℕ → List ℕ) → AreImages new.contents image
+    → (store_of (image 0) (image 1) ≡ store_as_read old)
+    ⊎ (store_of (image 0) (image 1) ≡ store_with changes (store_as_read old))
+
+-- in each image the batch stands
+abbrev pub HasBatch : List Change → BenchValue → BenchValue → Type 0
+HasBatch changes old new =
+    (image : ℕ → List ℕ) → AreImages new.contents image
+    → store_of (image 0) (image 1) ≡ store_with changes (store_as_read old)
+
+-- an answer is that the log was left after a fault
+abbrev pub is_stale : {T : Type 0} → Result T LogFault → Bool
+is_stale (Ok x) = false
+is_stale (Err Flash) = false
+is_stale (Err NoBank) = false
+is_stale (Err Full) = false
+is_stale (Err Stale) = true
+is_stale (Err Memory) = false
+
+-- an answer is Ok, Flash or Stale
+abbrev pub IsDoneOrFlashOrStale : {T : Type 0} → Result T LogFault → Type 0
+IsDoneOrFlashOrStale (Ok x) = Unit {0}
+IsDoneOrFlashOrStale (Err Flash) = Unit {0}
+IsDoneOrFlashOrStale (Err NoBank) = ⊥
+IsDoneOrFlashOrStale (Err Full) = ⊥
+IsDoneOrFlashOrStale (Err Stale) = Unit {0}
+IsDoneOrFlashOrStale (Err Memory) = ⊥
+
+-- what an append leaves of the log: a record more, or a batch in doubt, or nothing changed
+abbrev pub AppendLeaves : {T : Type 0} → ℕ → LogValue → LogValue → Result T LogFault → Type 0
+AppendLeaves n old new (Ok x) = new ≡ log_after old n
+AppendLeaves n old new (Err Flash) = new ≡ in_doubt old
+AppendLeaves n old new (Err NoBank) = ⊥
+AppendLeaves n old new (Err Full) = ⊥
+AppendLeaves n old new (Err Stale) = new ≡ old
+AppendLeaves n old new (Err Memory) = ⊥

@@ -1,0 +1,21 @@
+-- What moves on one bank leave of it: bytes behind a gate, and the gate.
+use Rattle.std.specs.Prelude.{◌≡◌, ◌⊎◌, ℕ, ◌+◌, List, length, get_or}
+use Rattle.cu_base.specs.Fields.{field}
+use Rattle.bench_model.specs.Regions.{AgreesOutside}
+use Rattle.var_log.specs.declared.limits.TheConstants.{OPEN_GATE}
+
+-- these bytes stand behind a gate, which may be any byte; all else is as it was
+pub record IsGated (at : ℕ) (bytes old new : List ℕ) : Type 0 where
+  pub outside : AgreesOutside at (1 + length bytes) old new
+  pub behind : field new (at + 1) (length bytes) ≡ bytes
+
+-- what a cut may leave while bytes are put behind a closed gate and the gate is opened: the bytes
+-- alone are in doubt, or they stand there and the gate is in doubt
+abbrev pub IsOpening : ℕ → List ℕ → List ℕ → List ℕ → Type 0
+IsOpening at bytes old image =
+    AgreesOutside (at + 1) (length bytes) old image ⊎ IsGated at bytes old image
+
+-- the bytes stand behind an open gate
+pub record IsOpened (at : ℕ) (bytes old new : List ℕ) : Type 0 where
+  pub gated : IsGated at bytes old new
+  pub gate : get_or new at 0 ≡ OPEN_GATE

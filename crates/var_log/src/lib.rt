@@ -1,0 +1,18 @@
+//! The log of variables in two banks of flash: batches of changes that stand wholly or not at all,
+//! in every image that a power cut may leave.
+#![tactic(auto)]
+
+mod batch;
+mod change;
+mod fault;
+mod limits;
+mod moving;
+mod record;
+
+pub use batch::Batch;
+pub use change::{Change, is_name};
+pub use fault::LogFault;
+pub use limits::{
+    BANK_HEAD, CLOSED_GATE, MAX_CHANGES, MAX_DATA, MAX_NAME, MAX_RECORD, OPEN_GATE, RECORD_HEAD,
+};
+pub use record::Record;
