@@ -5,7 +5,8 @@ use Rattle.std.proofs.Common.{Option, Some, None, Bool, true, false, ◌&&◌, a
 use Rattle.std.proofs.Common.{All, IsTrue, nat_eq, nat_le, nat_lt}
 use Rattle.std.proofs.lemmas.Bool.{le-leb, leb-true, lt-ltb}
 use Rattle.std.proofs.lemmas.Bool.Decides.{nat_tests}
-use Rattle.std.proofs.lemmas.List.{drop_at, drop_more, length-replicate}
+use Rattle.std.proofs.lemmas.List.{drop_at, drop_more, length-replicate, drop_all, take_all, append-nil}
+use Rattle.std.proofs.lemmas.List.{length-take, length-drop}
 use Rattle.std.specs.List.{flat_map, list_all}
 use Rattle.cu_base.specs.declared.guid.Guid.{Guid}
 use Rattle.cu_base.specs.Fields.{bytes_of, field, number, number_at}
@@ -18,8 +19,8 @@ use Rattle.var_log.specs.declared.limits.TheConstants.{MAX_CHANGES, MAX_RECORD}
 use Rattle.var_log.specs.Changes.{is_name, keeps_limits, has_sizes, is_change}
 use Rattle.var_log.specs.Records.{change_bytes, body_of, padding, record_size, first_change}
 use Rattle.var_log.specs.Records.{changes_from, changes_in, record_bytes, tail_of, entry_of}
-use Rattle.var_log.specs.Records.{end_rows, is_next, Entry, IsRecord, record_in, record_of}
-use Rattle.var_log.specs.Records.{RecordValue}
+use Rattle.var_log.specs.Records.{end_rows, is_next, Entry, IsRecord, record_in, record_with}
+use Rattle.var_log.specs.Records.{RecordValue, IsWritable, behind_gate}
 
 and_first : (a b : Bool) → (a && b) ≡ true → a ≡ true
 and_first true b h = refl
@@ -290,7 +291,7 @@ pub made : (bytes : List ℕ) (number : ℕ) (cs : List Change)
     → bytes ≡ record_bytes 2 number cs ++ CLOSED_GATE ∷ []
     → All (λ c. IsTrue (is_change c)) cs → length cs ≤ MAX_CHANGES → number < 2 ^ 64
     → record_size 2 (length (body_of cs)) ≤ MAX_RECORD
-    → IsRecord bytes × (record_in bytes ≡ record_of cs)
+    → IsRecord bytes × (record_in bytes ≡ record_with number cs)
 made bytes number cs is each few low small =
     let some : length (body_of cs) < 2 ^ 32 = omega arith in
     let short : length cs < 2 ^ 16 = omega arith in
@@ -301,4 +302,73 @@ made bytes number cs is each few low small =
       count = subst (λ (x : Entry). length x.changes ≤ MAX_CHANGES) (sym e) few;
       number = subst (λ (x : Entry). x.number < 2 ^ 64) (sym e) low;
       size = omega (arith, ap length is, length_of_front 2 number cs (CLOSED_GATE ∷ []));
-    }, ap (λ (x : Entry). let r : RecordValue = record { changes = x.changes; size = x.size } in r) e)
+    }, ap (λ (x : Entry). let r : RecordValue = record { changes = x.changes; number = x.number; size = x.size } in r) e)
+
+-- what the rule of a record says of its bytes
+pub writable : (bytes : List ℕ) → IsRecord bytes → IsWritable (record_in bytes)
+writable bytes is =
+    let cs = (entry_of 2 bytes).changes in
+    let n = (entry_of 2 bytes).number in
+    let long : record_size 2 (length (body_of cs)) ≤ MAX_RECORD = omega (arith, ap length is.written, length_of_front 2 n cs (CLOSED_GATE ∷ []), is.size) in
+    let again = made bytes n cs is.written is.each is.count is.number long in
+    record {
+      is = again.1;
+      each = is.each;
+      few = is.count;
+      low = is.number;
+      small = omega (arith, ap (λ (r : RecordValue). r.size) again.1, long);
+    }
+
+-- the same record under another number
+pub renumbered : (old new : List ℕ) (m : ℕ) → IsRecord old → m < 2 ^ 64
+    → new ≡ take 8 old ++ (bytes_of 8 m ++ drop 16 old)
+    → IsRecord new × (record_in new ≡ (let r : RecordValue = record (record_in old) { number = m } in r))
+renumbered old new m is low e =
+    let cs = (entry_of 2 old).changes in
+    let n = (entry_of 2 old).number in
+    let long : record_size 2 (length (body_of cs)) ≤ MAX_RECORD =
+    omega (arith, ap length is.written, length_of_front 2 n cs (CLOSED_GATE ∷ []), is.size) in
+    let whole : new ≡ record_bytes 2 m cs ++ CLOSED_GATE ∷ [] =
+    e ∙ ap (λ (l : List ℕ). take 8 l ++ (bytes_of 8 m ++ drop 16 l)) is.written in
+    let here = made new m cs whole is.each is.count low long in
+    let size = ap (λ (r : RecordValue). r.size) (writable old is).is in
+    (here.0, here.1 ∙ ap (λ (n : ℕ). let r : RecordValue = record {
+      changes = cs;
+      number = m;
+      size = n;
+    } in r) (sym size))
+
+-- a slice that is written back whole
+pub written_back : (n : ℕ) (s items : List ℕ) → length items ≡ n → length s ≡ n
+    → take n (s ++ drop (length s) items) ≡ s
+written_back n s items long same =
+    ap (λ (l : List ℕ). take n (s ++ l)) (drop_all (length s) items (omega (arith, long, same)))
+    ∙ ap (take n) (append-nil s) ∙ take_all n s (omega (arith, same))
+
+-- what stands behind the gate of a record
+pub behind_is : (bytes : List ℕ) → IsRecord bytes
+    → drop 1 bytes ≡ behind_gate 2 (record_in bytes).number (record_in bytes).changes ++ CLOSED_GATE ∷ []
+behind_is bytes is = ap (drop 1) is.written
+
+pub size_of_record : (bytes : List ℕ) → IsRecord bytes → length bytes ≡ 1 + (record_in bytes).size
+size_of_record bytes is =
+    let cs = (entry_of 2 bytes).changes in
+    let n = (entry_of 2 bytes).number in
+    let w = writable bytes is in
+    omega (arith, ap length is.written, length_of_front 2 n cs (CLOSED_GATE ∷ []),
+    ap (λ (r : RecordValue). r.size) w.is)
+
+-- a number that was put into its place
+pub put_back : (n m : ℕ) (r items s : List ℕ) → r ≡ items → length r ≡ n → 16 ≤ length items
+    → s ≡ take 8 r ++ (bytes_of 8 m ++ drop 16 r)
+    → take n (s ++ drop (length s) items) ≡ take 8 items ++ (bytes_of 8 m ++ drop 16 items)
+put_back n m r items s same long enough is =
+    let e : s ≡ take 8 items ++ (bytes_of 8 m ++ drop 16 items) =
+    is ∙ ap (λ (l : List ℕ). take 8 l ++ (bytes_of 8 m ++ drop 16 l)) same in
+    let total : length s ≡ n = omega (
+      arith, ap length e, ap length same, long, enough,
+      length-append (take 8 items) (bytes_of 8 m ++ drop 16 items),
+      length-append (bytes_of 8 m) (drop 16 items), length-bytes_of 8 m,
+      length-take 8 items, length-drop 16 items,
+    ) in
+    written_back n s items (omega (arith, ap length same, long)) total ∙ e

@@ -33,12 +33,16 @@ is_open bytes =
     get_or bytes 0 0 == OPEN_GATE && bytes_eq (field bytes 1 3) bank_name
     && (format_of bytes == 1 || format_of bytes == 2)
 
--- which bank the log is in: the open one of the greater generation, bank 0 where they are equal
-abbrev pub log_bank : List ℕ → List ℕ → Option ℕ
-log_bank first second =
-    if is_open first
-    then (if is_open second && nat_lt (generation_of first) (generation_of second) then Some 1 else Some 0)
-    else (if is_open second then Some 1 else None)
+-- of two banks the open one of the greater generation: 0 where they are equal
+abbrev pub choice : Bool → Bool → Bool → Option ℕ
+choice first second newer =
+    if first then (if second && newer then Some 1 else Some 0) else (if second then Some 1 else None)
+
+-- which bank the log is in
+abbrev pub log_bank : (ℕ → List ℕ) → Option ℕ
+log_bank banks =
+    choice (is_open (banks 0)) (is_open (banks 1))
+    (nat_lt (generation_of (banks 0)) (generation_of (banks 1)))
 
 -- the records of a bank
 abbrev pub entries_of : List ℕ → List Entry
@@ -71,14 +75,9 @@ store_in bytes = record {
   generation = generation_of bytes;
 }
 
--- one of the two banks
-abbrev pub bank_of : ℕ → List ℕ → List ℕ → List ℕ
-bank_of k first second = if k == 0 then first else second
-
--- the store that two banks are, or none where neither is open
-unfoldable pub store_of : List ℕ → List ℕ → Option StoreValue
-store_of first second =
-    option_map (λ k. store_in (bank_of k first second)) (log_bank first second)
+-- the store that banks 0 and 1 are, or none where neither is open
+unfoldable pub store_of : (ℕ → List ℕ) → Option StoreValue
+store_of banks = option_map (λ k. store_in (banks k)) (log_bank banks)
 
 -- a store once a batch was appended
 abbrev pub with_batch : StoreValue → List Change → StoreValue

@@ -8,7 +8,7 @@ use Rattle.var_log.specs.declared.change.Change.{Change}
 use Rattle.var_log.specs.declared.fault.LogFault.{LogFault}
 use Rattle.var_log.specs.declared.fault.LogFault.TheVariants.{Flash, NoBank, Full, Stale, Memory}
 use Rattle.var_log.specs.declared.limits.TheConstants.{OPEN_GATE}
-use Rattle.var_log.specs.Banks.{StoreValue, bank_of, end_of, entries_of, format_of, generation_of}
+use Rattle.var_log.specs.Banks.{StoreValue, end_of, entries_of, format_of, generation_of}
 use Rattle.var_log.specs.Banks.{last_of, log_bank, store_of, with_batch}
 
 -- a log: the bank that it is in, where its records end, the bytes of a bank, the number of its last
@@ -43,26 +43,26 @@ pub record HasBanks (b : BenchValue) : Type 0 where
   pub low : MIN_BANK ≤ length (b.contents.bytes 0)
   pub high : length (b.contents.bytes 0) ≤ MAX_BANK
 
--- the log is that of these two banks
-pub record IsLogOf (log : LogValue) (first second : List ℕ) : Type 0 where
-  pub bank : log_bank first second ≡ Some log.bank
-  pub format : format_of (bank_of log.bank first second) ≡ 2
-  pub seq : unwrap_or (last_of None (entries_of (bank_of log.bank first second))) 0 ≡ log.seq
-  pub generation : generation_of (bank_of log.bank first second) ≡ log.generation
-  pub ends : end_of (bank_of log.bank first second) ≡ log.at
-  pub closed : log.closed ≡ not (get_or (bank_of log.bank first second) log.at 0 == OPEN_GATE)
-  pub other : log.other_gate ≡ (get_or (bank_of log.bank second first) 0 0 == OPEN_GATE)
+-- the log is that of these banks
+pub record IsLogOf (log : LogValue) (banks : ℕ → List ℕ) : Type 0 where
+  pub bank : log_bank banks ≡ Some log.bank
+  pub format : format_of (banks log.bank) ≡ 2
+  pub seq : unwrap_or (last_of None (entries_of (banks log.bank))) 0 ≡ log.seq
+  pub generation : generation_of (banks log.bank) ≡ log.generation
+  pub ends : end_of (banks log.bank) ≡ log.at
+  pub closed : log.closed ≡ not (get_or (banks log.bank) log.at 0 == OPEN_GATE)
+  pub other : log.other_gate ≡ (get_or (banks (1 - log.bank)) 0 0 == OPEN_GATE)
 
 -- what holds where the bytes of the flash are told
 pub record StandsWhereTold (log : LogValue) (b : BenchValue) : Type 0 where
   pub first : IsRegionStable 0 b
   pub second : IsRegionStable 1 b
-  pub log : IsLogOf log (b.contents.bytes 0) (b.contents.bytes 1)
+  pub is : IsLogOf log b.contents.bytes
 
 -- the log stands on the flash: its banks have the log's size, and where they are told they are not
 -- dirty, and their bytes are this log
 pub record StandsOn (log : LogValue) (b : BenchValue) : Type 0 where
-  pub size : length (b.contents.bytes 0) ≡ log.size
+  pub size : (k : ℕ) → k < 2 → length (b.contents.bytes k) ≡ log.size
   pub told : b.contents.told ≡ true → StandsWhereTold log b
 
 -- the log once a record of so many bytes was appended
@@ -75,7 +75,7 @@ in_doubt log = record log { pending = Some (log.seq + 1); stale = true }
 
 -- the store of the banks as read
 abbrev pub store_as_read : BenchValue → Option StoreValue
-store_as_read b = store_of (b.contents.bytes 0) (b.contents.bytes 1)
+store_as_read b = store_of b.contents.bytes
 
 -- a store with one batch more
 abbrev pub store_with : List Change → Option StoreValue → Option StoreValue
@@ -85,14 +85,14 @@ store_with changes = option_map (λ s. with_batch s changes)
 abbrev pub HasBatchOrNot : List Change → BenchValue → BenchValue → Type 0
 HasBatchOrNot changes old new =
     (image : ℕ → List ℕ) → AreImages new.contents image
-    → (store_of (image 0) (image 1) ≡ store_as_read old)
-    ⊎ (store_of (image 0) (image 1) ≡ store_with changes (store_as_read old))
+    → (store_of image ≡ store_as_read old)
+    ⊎ (store_of image ≡ store_with changes (store_as_read old))
 
 -- in each image the batch stands
 abbrev pub HasBatch : List Change → BenchValue → BenchValue → Type 0
 HasBatch changes old new =
     (image : ℕ → List ℕ) → AreImages new.contents image
-    → store_of (image 0) (image 1) ≡ store_with changes (store_as_read old)
+    → store_of image ≡ store_with changes (store_as_read old)
 
 -- an answer is that the log was left after a fault
 abbrev pub is_stale : {T : Type 0} → Result T LogFault → Bool
@@ -120,3 +120,17 @@ AppendLeaves n old new (Err NoBank) = ⊥
 AppendLeaves n old new (Err Full) = ⊥
 AppendLeaves n old new (Err Stale) = new ≡ old
 AppendLeaves n old new (Err Memory) = ⊥
+
+-- the log of these fields
+abbrev pub log_of : ℕ → ℕ → ℕ → ℕ → ℕ → Bool → Bool → Option ℕ → Bool → LogValue
+log_of bank at size seq generation closed other_gate pending stale = record {
+  bank = bank;
+  at = at;
+  size = size;
+  seq = seq;
+  generation = generation;
+  closed = closed;
+  other_gate = other_gate;
+  pending = pending;
+  stale = stale;
+}

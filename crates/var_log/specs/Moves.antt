@@ -2,7 +2,7 @@
 use Rattle.std.specs.Prelude.{◌≡◌, ◌⊎◌, ℕ, ◌+◌, List, length, get_or}
 use Rattle.cu_base.specs.Fields.{field}
 use Rattle.bench_model.specs.Regions.{AgreesOutside}
-use Rattle.var_log.specs.declared.limits.TheConstants.{OPEN_GATE}
+use Rattle.var_log.specs.declared.limits.TheConstants.{OPEN_GATE, CLOSED_GATE}
 
 -- these bytes stand behind a gate, which may be any byte; all else is as it was
 pub record IsGated (at : ℕ) (bytes old new : List ℕ) : Type 0 where
@@ -19,3 +19,8 @@ IsOpening at bytes old image =
 pub record IsOpened (at : ℕ) (bytes old new : List ℕ) : Type 0 where
   pub gated : IsGated at bytes old new
   pub gate : get_or new at 0 ≡ OPEN_GATE
+
+-- a gate is closed; all else is as it was
+pub record IsShut (at : ℕ) (old new : List ℕ) : Type 0 where
+  pub outside : AgreesOutside at 1 old new
+  pub gate : get_or new at 0 ≡ CLOSED_GATE

@@ -127,24 +127,39 @@ entries_in (suc most) format before bytes =
         (drop (entry_of format bytes).size bytes)
     else []
 
--- what contracts see of a record: its changes, and the bytes that it takes
+-- what contracts see of a record: its changes, its number, and the bytes that it takes
 pub record RecordValue : Type 0 where
   pub changes : List Change
+  pub number : ℕ
   pub size : ℕ
 
--- the record of changes
-abbrev pub record_of : List Change → RecordValue
-record_of changes = record {
+-- the record of changes under a number
+abbrev pub record_with : ℕ → List Change → RecordValue
+record_with number changes = record {
   changes = changes;
+  number = number;
   size = record_size 2 (length (body_of changes));
 }
+
+-- the record of a batch before it has a number
+abbrev pub record_of : List Change → RecordValue
+record_of = record_with 0
 
 -- the record at the front of bytes
 abbrev pub record_in : List ℕ → RecordValue
 record_in bytes = record {
   changes = (entry_of 2 bytes).changes;
+  number = (entry_of 2 bytes).number;
   size = (entry_of 2 bytes).size;
 }
+
+-- a record keeps its limits
+pub record IsWritable (r : RecordValue) : Type 0 where
+  pub is : r ≡ record_with r.number r.changes
+  pub each : All (λ c. IsTrue (is_change c)) r.changes
+  pub few : length r.changes ≤ MAX_CHANGES
+  pub low : r.number < 2 ^ 64
+  pub small : r.size ≤ MAX_RECORD
 
 -- these bytes are a record with an open gate, and a closed gate behind it
 pub record IsRecord (bytes : List ℕ) : Type 0 where

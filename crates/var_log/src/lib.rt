@@ -6,6 +6,7 @@ mod batch;
 mod change;
 mod fault;
 mod limits;
+mod log;
 mod moving;
 mod record;
 
@@ -15,4 +16,5 @@ pub use fault::LogFault;
 pub use limits::{
     BANK_HEAD, CLOSED_GATE, MAX_CHANGES, MAX_DATA, MAX_NAME, MAX_RECORD, OPEN_GATE, RECORD_HEAD,
 };
+pub use log::VarLog;
 pub use record::Record;

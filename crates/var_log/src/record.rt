@@ -1,6 +1,7 @@
 ghost use Rattle.std.specs.Prelude.{◌≡◌, ◌≤◌, ◌<◌, ◌+◌, ◌^◌, ◌++◌, ◌∷◌, [], length, All, IsTrue, IfOk};
-ghost use Rattle.std.specs.Prelude.{OnOk, OnErr, replicate};
+ghost use Rattle.std.specs.Prelude.{OnOk, OnErr, replicate, take, drop};
 ghost use Rattle.std.specs.List.{flat_map};
+ghost use Rattle.cu_base.specs.Fields.{bytes_of};
 ghost use Rattle.var_log.specs.Changes.{keeps_limits, has_sizes};
 ghost use Rattle.var_log.specs.Records.{body_of, change_bytes, record_of, record_bytes, record_size};
 ghost use Rattle.var_log.specs.Records.{padding};
@@ -47,6 +48,35 @@ impl Record {
     {
         (self.bytes.len() - 1) as u32
     }
+}
+
+impl Record {
+    ghost use Rattle.var_log.specs.Records.{IsWritable, behind_gate};
+
+    /// Sets its number.
+    pub(crate) fn set_number(&mut self, number: u64)
+        ensures value { self.new ≡ record self.old { number = number } }
+    {
+        put_number(&mut self.bytes, number);
+    }
+
+    /// What is written behind its gate.
+    pub(crate) fn behind(&self) -> &[u8]
+        ensures value { result.now
+            ≡ behind_gate 2 self.now.number self.now.changes ++ CLOSED_GATE ∷ [] }
+        ensures rule { IsWritable self.now }
+        ensures size { length result.now ≡ self.now.size }
+    {
+        &self.bytes[1..]
+    }
+}
+
+// Puts the number into its place of a record.
+fn put_number(bytes: &mut [u8], number: u64)
+    requires long { 16 ≤ length bytes.old }
+    ensures value { bytes.new ≡ take 8 bytes.old ++ (bytes_of 8 number ++ drop 16 bytes.old) }
+{
+    bytes[8..16].copy_from_slice(&bytes_of_u64(number));
 }
 
 /// Appends the bytes.
