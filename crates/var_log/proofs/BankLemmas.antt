@@ -82,7 +82,7 @@ follows old new front within =
           (drop-drop q 16 new);
     }
 
-eqb-no : (a b : ℕ) → a ≢ b → nat_eq a b ≡ false
+pub eqb-no : (a b : ℕ) → a ≢ b → nat_eq a b ≡ false
 eqb-no a b h = grind (arith, nat_tests)
 
 -- a closed gate at the end
@@ -133,14 +133,14 @@ grown old new number cs rest front within format here small low few each next =
 
 -- ---- stores
 
-made_of : List Entry → ℕ → StoreValue
+unfoldable pub made_of : List Entry → ℕ → StoreValue
 made_of es generation = record {
   variables = after no_variables (flat_map (λ (e : Entry). e.changes) es);
   seq = unwrap_or (last_of None es) 0;
   generation = generation;
 }
 
-store_is : (bank : List ℕ) → store_in bank ≡ made_of (entries_of bank) (generation_of bank)
+pub store_is : (bank : List ℕ) → store_in bank ≡ made_of (entries_of bank) (generation_of bank)
 unfolding made_of
 store_is bank = refl
 

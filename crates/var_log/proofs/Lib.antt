@@ -1,5 +1,6 @@
 pub mod Appends
 pub mod BankLemmas
+pub mod Formats
 pub mod Gates
 pub mod Spelled
 pub mod Splits

@@ -7,7 +7,7 @@ use Rattle.std.specs.List.{flat_map}
 use Rattle.std.specs.Str.{bytes_eq}
 use Rattle.cu_base.specs.Fields.{bytes_of, field, number_at}
 use Rattle.var_log.specs.declared.change.Change.{Change}
-use Rattle.var_log.specs.declared.limits.TheConstants.{OPEN_GATE}
+use Rattle.var_log.specs.declared.limits.TheConstants.{OPEN_GATE, CLOSED_GATE}
 use Rattle.var_log.specs.Changes.{Variables, no_variables, after}
 use Rattle.var_log.specs.Records.{Entry, entries_in}
 
@@ -27,11 +27,14 @@ format_of bytes = number_at bytes 4 4
 abbrev pub generation_of : List ℕ → ℕ
 generation_of bytes = number_at bytes 8 8
 
--- a bank is open where its gate is, and the name and a known format stand there
+-- the name and a known format stand behind a bank's gate
+abbrev pub is_headed : List ℕ → Bool
+is_headed bytes =
+    bytes_eq (field bytes 1 3) bank_name && (format_of bytes == 1 || format_of bytes == 2)
+
+-- a bank is open where its gate is, and the name and a known format stand behind it
 abbrev pub is_open : List ℕ → Bool
-is_open bytes =
-    get_or bytes 0 0 == OPEN_GATE && bytes_eq (field bytes 1 3) bank_name
-    && (format_of bytes == 1 || format_of bytes == 2)
+is_open bytes = get_or bytes 0 0 == OPEN_GATE && is_headed bytes
 
 -- of two banks the open one of the greater generation: 0 where they are equal
 abbrev pub choice : Bool → Bool → Bool → Option ℕ
@@ -86,3 +89,12 @@ with_batch s changes = record {
   seq = s.seq + 1;
   generation = s.generation;
 }
+
+-- the store of an empty log of generation 1
+abbrev pub empty_store : StoreValue
+empty_store = record { variables = no_variables; seq = 0; generation = 1 }
+
+-- what is written behind the gate of a bank that becomes an empty log: its header, and a closed gate
+-- where the first record would stand
+abbrev pub empty_bank : List ℕ
+empty_bank = behind_bank_gate 2 1 ++ CLOSED_GATE ∷ []

@@ -9,7 +9,7 @@ use Rattle.var_log.specs.declared.fault.LogFault.{LogFault}
 use Rattle.var_log.specs.declared.fault.LogFault.TheVariants.{Flash, NoBank, Full, Stale, Memory}
 use Rattle.var_log.specs.declared.limits.TheConstants.{OPEN_GATE}
 use Rattle.var_log.specs.Banks.{StoreValue, end_of, entries_of, format_of, generation_of}
-use Rattle.var_log.specs.Banks.{last_of, log_bank, store_of, with_batch}
+use Rattle.var_log.specs.Banks.{last_of, log_bank, store_of, with_batch, is_headed, empty_store}
 
 -- a log: the bank that it is in, where its records end, the bytes of a bank, the number of its last
 -- batch and its generation; whether the byte at its end is no open gate, and that at the front of
@@ -103,15 +103,6 @@ is_stale (Err Full) = false
 is_stale (Err Stale) = true
 is_stale (Err Memory) = false
 
--- an answer is Ok, Flash or Stale
-abbrev pub IsDoneOrFlashOrStale : {T : Type 0} → Result T LogFault → Type 0
-IsDoneOrFlashOrStale (Ok x) = Unit {0}
-IsDoneOrFlashOrStale (Err Flash) = Unit {0}
-IsDoneOrFlashOrStale (Err NoBank) = ⊥
-IsDoneOrFlashOrStale (Err Full) = ⊥
-IsDoneOrFlashOrStale (Err Stale) = Unit {0}
-IsDoneOrFlashOrStale (Err Memory) = ⊥
-
 -- what an append leaves of the log: a record more, or a batch in doubt, or nothing changed
 abbrev pub AppendLeaves : {T : Type 0} → ℕ → LogValue → LogValue → Result T LogFault → Type 0
 AppendLeaves n old new (Ok x) = new ≡ log_after old n
@@ -134,3 +125,40 @@ log_of bank at size seq generation closed other_gate pending stale = record {
   pending = pending;
   stale = stale;
 }
+
+-- no bank is dirty, and none carries a header, whatever its gate
+pub record IsUnheaded (b : BenchValue) : Type 0 where
+  pub first : IsRegionStable 0 b
+  pub second : IsRegionStable 1 b
+  pub heads : (k : ℕ) → k < 2 → is_headed (b.contents.bytes k) ≡ false
+
+-- each image is no log or the empty one
+abbrev pub IsEmptyOrNone : BenchValue → Type 0
+IsEmptyOrNone b =
+    (image : ℕ → List ℕ) → AreImages b.contents image
+    → (store_of image ≡ None) ⊎ (store_of image ≡ Some empty_store)
+
+-- each image is the empty log
+abbrev pub IsEmptyLog : BenchValue → Type 0
+IsEmptyLog b =
+    (image : ℕ → List ℕ) → AreImages b.contents image → store_of image ≡ Some empty_store
+
+-- nothing changes but the banks, counts and the plan
+pub record ChangesBanks (old new : BenchValue) : Type 0 where
+  pub told : new.contents.told ≡ old.contents.told
+  pub regions : new.contents.regions ≡ old.contents.regions
+  pub long : (k : ℕ) → k < 2 → length (new.contents.bytes k) ≡ length (old.contents.bytes k)
+  pub bytes : (k : ℕ) → 2 ≤ k → new.contents.bytes k ≡ old.contents.bytes k
+  pub dirty : (k : ℕ) → 2 ≤ k → new.contents.dirty k ≡ old.contents.dirty k
+  pub rest : new.contents.rest ≡ old.contents.rest
+  pub spare : new.spare ≡ old.spare
+  pub orders : new.orders ≡ old.orders
+
+-- an answer is Ok or Flash
+abbrev pub IsDoneOrFlash : {T : Type 0} → Result T LogFault → Type 0
+IsDoneOrFlash (Ok x) = Unit {0}
+IsDoneOrFlash (Err Flash) = Unit {0}
+IsDoneOrFlash (Err NoBank) = ⊥
+IsDoneOrFlash (Err Full) = ⊥
+IsDoneOrFlash (Err Stale) = ⊥
+IsDoneOrFlash (Err Memory) = ⊥

@@ -5,6 +5,7 @@
 mod batch;
 mod change;
 mod fault;
+mod formatting;
 mod limits;
 mod log;
 mod moving;
