@@ -60,7 +60,7 @@ not_open : (b : Bool) → true ≡ not b → b ≡ false
 not_open true e = absurd cc
 not_open false e = refl
 
-differs : (a b : ℕ) → nat_eq a b ≡ false → a ≢ b
+pub differs : (a b : ℕ) → nat_eq a b ≡ false → a ≢ b
 differs a b h = λ e. grind (arith, nat_tests)
 
 -- an append under way: the log stands on the flash, and the record is its next and fits

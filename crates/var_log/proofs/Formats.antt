@@ -25,18 +25,18 @@ and_no false b h = refl
 unheaded : (x : List ℕ) → is_headed x ≡ false → is_open x ≡ false
 unheaded x lacks = and_no (nat_eq (get_or x 0 0) OPEN_GATE) (is_headed x) lacks
 
-gateless : (x : List ℕ) → get_or x 0 0 ≢ OPEN_GATE → is_open x ≡ false
+pub gateless : (x : List ℕ) → get_or x 0 0 ≢ OPEN_GATE → is_open x ≡ false
 gateless x shut = rw (eqb-no _ _ shut) refl
 
 -- the header depends on what stands behind the gate
-head_behind : (old x : List ℕ) → drop 1 x ≡ drop 1 old → is_headed x ≡ is_headed old
+pub head_behind : (old x : List ℕ) → drop 1 x ≡ drop 1 old → is_headed x ≡ is_headed old
 head_behind old x same =
     let named : field x 1 3 ≡ field old 1 3 = ap (take 3) same in
     let format : field x 4 4 ≡ field old 4 4 =
     ap (take 4) (sym (drop-drop 3 1 x) ∙ ap (drop 3) same ∙ drop-drop 3 1 old) in
     rw (named, format) refl
 
-head_outside : (old x : List ℕ) → AgreesOutside 0 1 old x → is_headed x ≡ is_headed old
+pub head_outside : (old x : List ℕ) → AgreesOutside 0 1 old x → is_headed x ≡ is_headed old
 head_outside old x agrees = head_behind old x (agrees_back 0 1 old x agrees)
 
 pub none_open : (banks : ℕ → List ℕ) → is_open (banks 0) ≡ false → is_open (banks 1) ≡ false

@@ -22,7 +22,7 @@ use Rattle.var_log.specs.Records.{changes_from, changes_in, record_bytes, tail_o
 use Rattle.var_log.specs.Records.{end_rows, is_next, Entry, IsRecord, record_in, record_with}
 use Rattle.var_log.specs.Records.{RecordValue, IsWritable, behind_gate}
 
-and_first : (a b : Bool) → (a && b) ≡ true → a ≡ true
+pub and_first : (a b : Bool) → (a && b) ≡ true → a ≡ true
 and_first true b h = refl
 and_first false b h = h
 
@@ -113,7 +113,7 @@ read_delete name g rest sixteen is =
     (ap (drop (18 + n)) e2 ∙ drop_at ((lead ++ name) ++ g) rest _ l2)
     (le-leb _ _ (omega (arith, whole))) is
 
-eqb-true : (a b : ℕ) → nat_eq a b ≡ true → a ≡ b
+pub eqb-true : (a b : ℕ) → nat_eq a b ≡ true → a ≡ b
 eqb-true a b h = grind (arith, nat_tests)
 
 ltb-true : (a b : ℕ) → nat_lt a b ≡ true → a < b

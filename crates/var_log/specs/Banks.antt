@@ -9,7 +9,7 @@ use Rattle.cu_base.specs.Fields.{bytes_of, field, number_at}
 use Rattle.var_log.specs.declared.change.Change.{Change}
 use Rattle.var_log.specs.declared.limits.TheConstants.{OPEN_GATE, CLOSED_GATE}
 use Rattle.var_log.specs.Changes.{Variables, no_variables, after}
-use Rattle.var_log.specs.Records.{Entry, entries_in}
+use Rattle.var_log.specs.Records.{Entry, entries_in, record_bytes}
 
 -- the name that a bank carries, 'CUV'
 abbrev pub bank_name : List ℕ
@@ -98,3 +98,13 @@ empty_store = record { variables = no_variables; seq = 0; generation = 1 }
 -- where the first record would stand
 abbrev pub empty_bank : List ℕ
 empty_bank = behind_bank_gate 2 1 ++ CLOSED_GATE ∷ []
+
+-- what is written behind the gate of a bank that is reclaimed: its header, one record of what lives
+-- under the last number, and a closed gate behind it
+abbrev pub reclaimed : ℕ → ℕ → List Change → List ℕ
+reclaimed generation seq live =
+    behind_bank_gate 2 generation ++ (record_bytes 2 seq live ++ CLOSED_GATE ∷ [])
+
+-- the store once it was reclaimed
+abbrev pub reclaimed_store : StoreValue → StoreValue
+reclaimed_store s = record s { generation = s.generation + 1 }

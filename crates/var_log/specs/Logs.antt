@@ -1,7 +1,7 @@
 -- A log as it was opened, and the flash that it stands on.
 use Rattle.std.specs.Prelude.{◌≡◌, ◌⊎◌, ℕ, ◌+◌, ◌-◌, ◌<◌, ◌≤◌, ◌==◌, Bool, true, false, not, List, length}
 use Rattle.std.specs.Prelude.{get_or, Option, Some, None, option_map, unwrap_or, Result, Ok, Err}
-use Rattle.std.specs.Prelude.{if◌then◌else◌}
+use Rattle.std.specs.Prelude.{if◌then◌else◌, ◌^◌, ◌&&◌, ◌||◌, nat_lt, nat_le}
 use Rattle.bench_model.specs.declared.limits.TheConstants.{MIN_BANK, MAX_BANK}
 use Rattle.bench_model.specs.Bench.{BenchValue, Contents, AreImages, IsRegionStable}
 use Rattle.var_log.specs.declared.change.Change.{Change}
@@ -10,6 +10,8 @@ use Rattle.var_log.specs.declared.fault.LogFault.TheVariants.{Flash, NoBank, Ful
 use Rattle.var_log.specs.declared.limits.TheConstants.{OPEN_GATE}
 use Rattle.var_log.specs.Banks.{StoreValue, end_of, entries_of, format_of, generation_of}
 use Rattle.var_log.specs.Banks.{last_of, log_bank, store_of, with_batch, is_headed, empty_store}
+use Rattle.var_log.specs.Banks.{reclaimed_store}
+use Rattle.var_log.specs.Changes.{after, no_variables}
 
 -- a log: the bank that it is in, where its records end, the bytes of a bank, the number of its last
 -- batch and its generation; whether the byte at its end is no open gate, and that at the front of
@@ -162,3 +164,54 @@ IsDoneOrFlash (Err NoBank) = ⊥
 IsDoneOrFlash (Err Full) = ⊥
 IsDoneOrFlash (Err Stale) = ⊥
 IsDoneOrFlash (Err Memory) = ⊥
+
+-- an answer is that the log takes no such record
+abbrev pub is_full : {T : Type 0} → Result T LogFault → Bool
+is_full (Ok x) = false
+is_full (Err Flash) = false
+is_full (Err NoBank) = false
+is_full (Err Full) = true
+is_full (Err Stale) = false
+is_full (Err Memory) = false
+
+-- there is no room for so many bytes: the last number is the greatest, or too few are free, and
+-- either too few would be once what lives takes n bytes of the other bank, or the generation is the
+-- greatest
+abbrev pub is_log_full : ℕ → ℕ → LogValue → Bool
+is_log_full n bytes log =
+    log.seq == 2 ^ 64 - 1
+    || (nat_lt (free_of log) bytes
+    && (nat_lt (log.size - 17 - n) bytes || log.generation == 2 ^ 64 - 1))
+
+-- these changes make exactly the variables of the log
+abbrev pub IsLive : List Change → BenchValue → Type 0
+IsLive live b =
+    b.contents.told ≡ true
+    → option_map (λ s. s.variables) (store_as_read b) ≡ Some (after no_variables live)
+
+-- in each image the store is as it was, or it was reclaimed
+abbrev pub KeepsVariables : BenchValue → BenchValue → Type 0
+KeepsVariables old new =
+    (image : ℕ → List ℕ) → AreImages new.contents image
+    → (store_of image ≡ store_as_read old)
+    ⊎ (store_of image ≡ option_map reclaimed_store (store_as_read old))
+
+-- the log once what lives was written into the other bank, where it takes n bytes
+abbrev pub log_reclaimed : LogValue → ℕ → LogValue
+log_reclaimed log n = record log {
+  bank = 1 - log.bank;
+  at = 16 + n;
+  generation = log.generation + 1;
+  closed = true;
+  other_gate = true;
+}
+
+-- what a call for room leaves of the log
+abbrev pub RoomLeaves : {T : Type 0} → ℕ → ℕ → LogValue → LogValue → Result T LogFault → Type 0
+RoomLeaves n bytes old new (Ok x) =
+    new ≡ (if nat_le bytes (free_of old) then old else log_reclaimed old n)
+RoomLeaves n bytes old new (Err Flash) = new ≡ record old { stale = true }
+RoomLeaves n bytes old new (Err NoBank) = ⊥
+RoomLeaves n bytes old new (Err Full) = new ≡ old
+RoomLeaves n bytes old new (Err Stale) = new ≡ old
+RoomLeaves n bytes old new (Err Memory) = new ≡ old

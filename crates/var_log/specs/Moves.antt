@@ -24,3 +24,20 @@ pub record IsOpened (at : ℕ) (bytes old new : List ℕ) : Type 0 where
 pub record IsShut (at : ℕ) (old new : List ℕ) : Type 0 where
   pub outside : AgreesOutside at 1 old new
   pub gate : get_or new at 0 ≡ CLOSED_GATE
+
+-- a gate of the old bank was closed, and then bytes were put behind an open gate at its front
+pub record Reclaims (place : ℕ) (bytes old new : List ℕ) : Type 0 where
+  pub between : List ℕ
+  pub shut : IsShut place old between
+  pub opened : IsOpened 0 bytes between new
+
+-- the same, with the last of it in doubt
+pub record IsReclaimed (place : ℕ) (bytes old image : List ℕ) : Type 0 where
+  pub between : List ℕ
+  pub shut : IsShut place old between
+  pub opening : IsOpening 0 bytes between image
+
+-- what a cut may leave of a bank that is reclaimed
+abbrev pub IsReclaiming : ℕ → List ℕ → List ℕ → List ℕ → Type 0
+IsReclaiming place bytes old image =
+    AgreesOutside place 1 old image ⊎ IsReclaimed place bytes old image

@@ -9,6 +9,7 @@ mod formatting;
 mod limits;
 mod log;
 mod moving;
+mod reclaiming;
 mod record;
 
 pub use batch::Batch;

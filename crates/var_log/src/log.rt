@@ -13,15 +13,15 @@ use std::marker::Model;
 /// A log that was opened. Contracts see where it is and where its records end.
 #[derive(Drop)]
 pub struct VarLog {
-    bank: u32,
-    at: u32,
-    size: u32,
-    seq: u64,
-    generation: u64,
-    closed: bool,
-    other_gate: bool,
-    pending: Option<u64>,
-    stale: bool,
+    pub(crate) bank: u32,
+    pub(crate) at: u32,
+    pub(crate) size: u32,
+    pub(crate) seq: u64,
+    pub(crate) generation: u64,
+    pub(crate) closed: bool,
+    pub(crate) other_gate: bool,
+    pub(crate) pending: Option<u64>,
+    pub(crate) stale: bool,
 }
 
 impl Model for VarLog {

@@ -158,6 +158,16 @@ fn id(guid: &Guid) -> &[u8]
     &guid.bytes
 }
 
+/// The bytes that the record of these changes takes.
+pub(crate) fn record_len(changes: &[Change]) -> usize
+    requires limits { All (λ c. IsTrue (keeps_limits c)) changes.now }
+    requires size { length (body_of changes.now) < 2 ^ 32 }
+    ensures value { result ≡ record_size 2 (length (body_of changes.now)) }
+{
+    let body = body_len(changes);
+    RECORD_HEAD + body + padding(body)
+}
+
 // How many bytes a change has.
 fn change_len(change: &Change) -> usize
     requires limits { IsTrue (keeps_limits change.now) }
