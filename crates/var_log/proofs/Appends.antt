@@ -1,26 +1,25 @@
 -- What an append leaves of the store in each image.
-use Rattle.std.proofs.Common.{◌≡◌, ◌≢◌, ◌⊎◌, inl, inr, ℕ, ◌+◌, ◌-◌, ◌<◌, ◌≤◌, ◌^◌, List, [], ◌∷◌, ◌++◌}
+use Rattle.std.proofs.Common.{◌≡◌, ◌≢◌, inl, inr, ℕ, ◌+◌, ◌-◌, ◌<◌, ◌≤◌, List, [], ◌∷◌, ◌++◌}
 use Rattle.std.proofs.Common.{length, get_or, take, drop, refl, sym, ap, ◌∙◌, subst, arith, Option, Some}
-use Rattle.std.proofs.Common.{None, Bool, true, false, not, cond, All, IsTrue, nat_eq, unwrap_or}
-use Rattle.std.proofs.Common.{append_assoc, option_map, length-append}
+use Rattle.std.proofs.Common.{None, Bool, true, false, not, cond, nat_eq, unwrap_or}
+use Rattle.std.proofs.Common.{append_assoc, length-append}
 use Rattle.std.proofs.lemmas.Bool.{cases_eq}
 use Rattle.std.proofs.lemmas.Bool.Decides.{nat_tests}
 use Rattle.std.proofs.lemmas.List.{drop_more, take-append-drop, get_or-drop, get_or-take}
 use Rattle.std.proofs.Math.Seq.{get_or-append_seam}
-use Rattle.cu_base.specs.Fields.{field}
-use Rattle.bench_model.specs.Regions.{AgreesOutside, IsImage, IsStable}
-use Rattle.bench_model.specs.Bench.{BenchValue, ChangesRegion, IsRegionStable, region_at, AreImages}
+use Rattle.bench_model.specs.Regions.{AgreesOutside, IsImage}
+use Rattle.bench_model.specs.Bench.{BenchValue, ChangesRegion, IsRegionStable, region_at}
 use Rattle.bench_model.proofs.ImageLemmas.{agrees_front, image_of_stable}
 use Rattle.var_log.specs.declared.change.Change.{Change}
-use Rattle.var_log.specs.declared.limits.TheConstants.{OPEN_GATE, CLOSED_GATE, MAX_RECORD}
+use Rattle.var_log.specs.declared.limits.TheConstants.{OPEN_GATE, CLOSED_GATE}
 use Rattle.var_log.specs.Records.{behind_gate, record_bytes, record_size, body_of, IsWritable, record_with}
 use Rattle.var_log.specs.Records.{is_next, RecordValue, Entry}
-use Rattle.var_log.specs.Banks.{entries_of, end_of, last_of, log_bank, store_in, store_of, with_batch, is_open}
-use Rattle.var_log.specs.Banks.{StoreValue, taken}
+use Rattle.var_log.specs.Banks.{entries_of, end_of, last_of, log_bank, store_of}
+use Rattle.var_log.specs.Banks.{taken}
 use Rattle.var_log.specs.Moves.{IsGated, IsOpening, IsOpened}
-use Rattle.var_log.specs.Logs.{LogValue, IsLog, IsLogOf, StandsOn, StandsWhereTold, free_of, log_after}
+use Rattle.var_log.specs.Logs.{LogValue, IsLog, StandsOn, StandsWhereTold, free_of, log_after}
 use Rattle.var_log.specs.Logs.{HasBatch, HasBatchOrNot, store_as_read, store_with}
-use Rattle.var_log.proofs.BankLemmas.{SameFront, SameHead, SameBank, Grown, same_bank, kept, grown}
+use Rattle.var_log.proofs.BankLemmas.{SameHead, SameBank, Grown, same_bank, kept, grown}
 use Rattle.var_log.proofs.BankLemmas.{entry_with, same_store, same_choice, store_at, grown_store_in}
 use Rattle.var_log.proofs.BankLemmas.{last_grown, taken_grown}
 use Rattle.var_log.proofs.Splits.{same_field}
@@ -260,8 +259,13 @@ module _ (log : LogValue) (number : ℕ) (cs : List Change) (old : BenchValue)
                 ∙ ap (λ (o : Option ℕ). unwrap_or o 0) (last_grown es (entry_with number cs))
                 ∙ under.next;
             generation = grows.head.generation ∙ w.is.generation;
-            ends = omega (arith, is, w.is.ends, ap taken grows.entries,
-            taken_grown es (entry_with number cs));
+            ends = omega (
+              arith,
+              is,
+              w.is.ends,
+              ap taken grows.entries,
+              taken_grown es (entry_with number cs),
+            );
             closed = ap (λ (b : ℕ). not (nat_eq b OPEN_GATE))
                 (sym (ap (λ (k : ℕ). get_or x k 0) here ∙ last_byte x opened.gated));
             other = w.is.other ∙ ap (λ (l : List ℕ). nat_eq (get_or l 0 0) OPEN_GATE)

@@ -1,13 +1,13 @@
 -- Banks whose front is the same, and the stores that they are.
-use Rattle.std.proofs.Common.{◌≡◌, ◌≢◌, ℕ, zero, suc, ◌+◌, ◌-◌, ◌<◌, ◌≤◌, ◌^◌, List, [], ◌∷◌, ◌++◌}
-use Rattle.std.proofs.Common.{length, get_or, take, drop, refl, sym, ap, ◌∙◌, subst, arith, Option, Some}
-use Rattle.std.proofs.Common.{None, Bool, true, false, not, All, IsTrue, nat_lt, nat_eq, option_map}
-use Rattle.std.proofs.Common.{unwrap_or, append_assoc, ◌⊎◌, inl, inr, fold}
+use Rattle.std.proofs.Common.{◌≡◌, ◌≢◌, ℕ, suc, ◌+◌, ◌-◌, ◌<◌, ◌≤◌, ◌^◌, List, [], ◌∷◌, ◌++◌}
+use Rattle.std.proofs.Common.{length, get_or, take, drop, refl, sym, ap, ◌∙◌, arith, Option, Some}
+use Rattle.std.proofs.Common.{None, Bool, true, false, All, IsTrue, nat_lt, nat_eq, option_map}
+use Rattle.std.proofs.Common.{unwrap_or, append_assoc}
 use Rattle.std.proofs.lemmas.List.{drop-drop, length-drop, append-nil, get_or-drop}
 use Rattle.std.proofs.lemmas.Bool.Decides.{nat_tests}
 use Rattle.std.proofs.lemmas.List.Sums.{fold-append}
 use Rattle.std.specs.List.{flat_map}
-use Rattle.cu_base.specs.Fields.{field, number_at, number}
+use Rattle.cu_base.specs.Fields.{number}
 use Rattle.var_log.specs.declared.change.Change.{Change}
 use Rattle.var_log.specs.declared.limits.TheConstants.{OPEN_GATE, CLOSED_GATE}
 use Rattle.var_log.specs.Changes.{is_change, after, no_variables, changed, Variables}

@@ -1,19 +1,19 @@
 -- What the moves of a format leave of the banks in each image.
-use Rattle.std.proofs.Common.{◌≡◌, ◌≢◌, ◌⊎◌, inl, inr, ℕ, ◌+◌, ◌<◌, ◌≤◌, List, [], ◌∷◌, ◌++◌, length}
-use Rattle.std.proofs.Common.{get_or, take, drop, refl, sym, ap, ◌∙◌, subst, arith, Option, Some, None}
+use Rattle.std.proofs.Common.{◌≡◌, ◌≢◌, inl, inr, ℕ, ◌<◌, List, [], ◌∷◌, ◌++◌, length}
+use Rattle.std.proofs.Common.{get_or, take, drop, refl, sym, ap, ◌∙◌, arith, Some, None}
 use Rattle.std.proofs.Common.{Bool, true, false, nat_eq, ◌&&◌}
 use Rattle.std.proofs.lemmas.Bool.{cases_eq}
 use Rattle.std.proofs.lemmas.List.{drop_more, take-append-drop, drop-drop}
-use Rattle.cu_base.specs.Fields.{field, number}
+use Rattle.cu_base.specs.Fields.{field}
 use Rattle.bench_model.specs.Regions.{AgreesOutside, IsImage}
-use Rattle.bench_model.specs.Bench.{BenchValue, ChangesRegion, IsRegionStable, region_at, AreImages}
+use Rattle.bench_model.specs.Bench.{BenchValue, ChangesRegion, IsRegionStable, region_at}
 use Rattle.bench_model.proofs.ImageLemmas.{agrees_back, image_of_stable}
 use Rattle.var_log.specs.declared.limits.TheConstants.{OPEN_GATE, CLOSED_GATE}
 use Rattle.var_log.specs.Records.{Entry}
 use Rattle.var_log.specs.Banks.{is_open, is_headed, store_of, store_in, entries_of, empty_store, empty_bank}
 use Rattle.var_log.specs.Banks.{log_bank, generation_of}
 use Rattle.var_log.specs.Moves.{IsGated, IsOpening, IsOpened, IsShut}
-use Rattle.var_log.specs.Logs.{IsUnheaded, IsEmptyOrNone, IsEmptyLog, HasBanks}
+use Rattle.var_log.specs.Logs.{IsUnheaded, IsEmptyOrNone, IsEmptyLog}
 use Rattle.var_log.proofs.Splits.{closed_end}
 use Rattle.var_log.proofs.BankLemmas.{store_at, eqb-no, made_of, store_is}
 use Rattle.var_log.proofs.Appends.{image_elsewhere}

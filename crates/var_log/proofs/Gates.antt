@@ -1,11 +1,11 @@
 -- The moves on one bank, by regions.
-use Rattle.std.proofs.Common.{◌≡◌, ◌⊎◌, inl, inr, ℕ, ◌+◌, ◌<◌, ◌≤◌, List, [], ◌∷◌, length, get_or}
-use Rattle.std.proofs.Common.{take, drop, refl, sym, ◌∙◌, ap, arith, true, subst}
+use Rattle.std.proofs.Common.{◌≡◌, inl, inr, ℕ, ◌+◌, List, [], ◌∷◌, length, get_or}
+use Rattle.std.proofs.Common.{take, drop, sym, ◌∙◌, ap, arith, true, subst}
 use Rattle.std.proofs.lemmas.List.{get_or-take, get_or-drop}
 use Rattle.cu_base.specs.Fields.{field}
 use Rattle.bench_model.specs.Regions.{Region, AgreesOutside, IsOutside, IsImage, IsStable, Syncs}
 use Rattle.bench_model.specs.Regions.{Writes, ReadsAs}
-use Rattle.bench_model.proofs.ImageLemmas.{agrees_back, image_of_write, image_of_sync, image_of_read}
+use Rattle.bench_model.proofs.ImageLemmas.{agrees_back, image_of_write, image_of_read}
 use Rattle.var_log.specs.declared.limits.TheConstants.{OPEN_GATE, CLOSED_GATE}
 use Rattle.var_log.specs.Moves.{IsGated, IsOpening, IsOpened, IsShut}
 

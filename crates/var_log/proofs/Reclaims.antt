@@ -1,5 +1,5 @@
 -- What a reclaim leaves of the store in each image.
-use Rattle.std.proofs.Common.{◌≡◌, ◌≢◌, ◌⊎◌, inl, inr, ℕ, zero, suc, ◌+◌, ◌-◌, ◌<◌, ◌≤◌, ◌^◌, List, []}
+use Rattle.std.proofs.Common.{◌≡◌, ◌≢◌, inl, inr, ℕ, ◌+◌, ◌-◌, ◌<◌, ◌≤◌, ◌^◌, List, []}
 use Rattle.std.proofs.Common.{◌∷◌, ◌++◌, length, get_or, take, drop, refl, sym, ap, ◌∙◌, subst, arith}
 use Rattle.std.proofs.Common.{Option, Some, None, Bool, true, false, not, cond, ◌&&◌, All, IsTrue, nat_eq}
 use Rattle.std.proofs.Common.{nat_lt, unwrap_or, append_assoc, option_map, length-append}
@@ -7,27 +7,26 @@ use Rattle.std.proofs.lemmas.Bool.{cases_eq, lt-ltb}
 use Rattle.std.proofs.lemmas.Bool.Decides.{nat_tests}
 use Rattle.std.proofs.lemmas.List.{drop_more, take-append-drop, get_or-drop, get_or-take, append-nil, drop-drop}
 use Rattle.std.proofs.Math.Seq.{get_or-append_seam}
-use Rattle.std.specs.List.{flat_map}
-use Rattle.cu_base.specs.Fields.{bytes_of, number}
+use Rattle.cu_base.specs.Fields.{number}
 use Rattle.cu_base.proofs.Fields.{number-bytes_of}
 use Rattle.bench_model.specs.Regions.{AgreesOutside, IsImage}
-use Rattle.bench_model.specs.Bench.{BenchValue, ChangesRegion, IsRegionStable, region_at, AreImages}
+use Rattle.bench_model.specs.Bench.{BenchValue, ChangesRegion, IsRegionStable, region_at}
 use Rattle.bench_model.proofs.ImageLemmas.{agrees_back, image_of_stable}
 use Rattle.var_log.specs.declared.change.Change.{Change}
 use Rattle.var_log.specs.declared.limits.TheConstants.{OPEN_GATE, CLOSED_GATE}
 use Rattle.var_log.specs.Changes.{is_change, after, no_variables, Variables}
 use Rattle.var_log.specs.Records.{Entry, body_of, record_size, record_bytes, entries_in}
 use Rattle.var_log.specs.Banks.{is_open, is_headed, store_of, store_in, entries_of, reclaimed, StoreValue}
-use Rattle.var_log.specs.Banks.{log_bank, generation_of, reclaimed_store, choice, end_of, taken, last_of}
+use Rattle.var_log.specs.Banks.{log_bank, generation_of, reclaimed_store, choice, taken, last_of}
 use Rattle.var_log.specs.Banks.{format_of, behind_bank_gate}
-use Rattle.var_log.specs.Moves.{IsGated, IsOpening, IsOpened, IsShut, IsReclaiming, IsReclaimed, Reclaims}
+use Rattle.var_log.specs.Moves.{IsGated, IsShut, IsReclaiming, Reclaims}
 use Rattle.var_log.specs.Logs.{LogValue, IsLog, StandsOn, StandsWhereTold, IsLive, KeepsVariables}
 use Rattle.var_log.specs.Logs.{log_reclaimed, store_as_read}
 use Rattle.var_log.proofs.Splits.{one_more}
-use Rattle.var_log.proofs.BankLemmas.{store_at, made_of, store_is, entry_with, SameHead, same_bank, eqb-no}
+use Rattle.var_log.proofs.BankLemmas.{store_at, made_of, store_is, entry_with, SameHead, same_bank}
 use Rattle.var_log.proofs.BankLemmas.{same_choice, same_store}
 use Rattle.var_log.proofs.Appends.{image_elsewhere, stable_at, differs}
-use Rattle.var_log.proofs.Formats.{head_outside, head_behind, gateless}
+use Rattle.var_log.proofs.Formats.{head_behind, gateless}
 use Rattle.var_log.proofs.Spelled.{length_of_front, and_first, eqb-true}
 
 -- ---- which bank is the log
@@ -220,7 +219,6 @@ module _ (log : LogValue) (live : List Change) (old : BenchValue) (under : Under
       kept_log w banks same (alone banks log.bank low_bank
       (ap is_open same ∙ was_open old.contents.bytes log.bank low_bank w.is.bank) shut)
 
-
   fresh_other : (told : old.contents.told ≡ true) (w : StandsWhereTold log old) (banks : ℕ → List ℕ)
       → banks log.bank ≡ old.contents.bytes log.bank → IsFresh (log.generation + 1) log.seq live (banks other)
       → store_of banks ≡ option_map reclaimed_store (store_as_read old)
@@ -338,8 +336,12 @@ module _ (log : LogValue) (live : List Change) (old : BenchValue) (under : Under
       let whole : bytes ≡ (head ++ entry) ++ CLOSED_GATE ∷ [] =
       sym (append_assoc head entry (CLOSED_GATE ∷ [])) in
       let size : length (head ++ entry) ≡ 15 + record_size 2 (length (body_of live)) =
-      omega (arith, length-append head entry, length-append entry (CLOSED_GATE ∷ []),
-      length_of_front 2 log.seq live (CLOSED_GATE ∷ [])) in
+      omega (
+        arith,
+        length-append head entry,
+        length-append entry (CLOSED_GATE ∷ []),
+        length_of_front 2 log.seq live (CLOSED_GATE ∷ []),
+      ) in
       let n = length (head ++ entry) in
       let long : length bytes ≡ n + 1 =
       ap length whole ∙ length-append (head ++ entry) (CLOSED_GATE ∷ []) in

@@ -1,5 +1,5 @@
 -- What is written is read: a change, a body and a record.
-use Rattle.std.proofs.Common.{◌≡◌, ℕ, zero, suc, ◌+◌, ◌%◌, ◌-◌, ◌<◌, ◌≤◌, ◌^◌, List, [], ◌∷◌, ◌++◌}
+use Rattle.std.proofs.Common.{◌≡◌, ℕ, zero, suc, ◌+◌, ◌<◌, ◌≤◌, ◌^◌, List, [], ◌∷◌, ◌++◌}
 use Rattle.std.proofs.Common.{length, get_or, take, drop, replicate, refl, sym, ap, ◌∙◌, subst, arith}
 use Rattle.std.proofs.Common.{Option, Some, None, Bool, true, false, ◌&&◌, append_assoc, length-append}
 use Rattle.std.proofs.Common.{All, IsTrue, nat_eq, nat_le, nat_lt}
@@ -8,10 +8,9 @@ use Rattle.std.proofs.lemmas.Bool.Decides.{nat_tests}
 use Rattle.std.proofs.lemmas.List.{drop_at, drop_more, length-replicate, drop_all, take_all, append-nil}
 use Rattle.std.proofs.lemmas.List.{length-take, length-drop}
 use Rattle.std.specs.List.{flat_map, list_all}
-use Rattle.cu_base.specs.declared.guid.Guid.{Guid}
 use Rattle.cu_base.specs.Fields.{bytes_of, field, number, number_at}
 use Rattle.cu_base.specs.Refusals.{first_refusal}
-use Rattle.cu_base.proofs.Fields.{field_in, number_at_in, length-bytes_of, number-bytes_of}
+use Rattle.cu_base.proofs.Fields.{field_in, number_at_in, length-bytes_of}
 use Rattle.var_log.specs.declared.change.Change.{Change}
 use Rattle.var_log.specs.declared.change.Change.TheVariants.{Set, Delete}
 use Rattle.var_log.specs.declared.limits.TheConstants.{MAX_DATA, OPEN_GATE, CLOSED_GATE}
@@ -218,8 +217,12 @@ module _ (format number : ℕ) (cs : List Change) (rest : List ℕ) where
   length_of_front =
       let body = body_of cs in
       let zeros : List ℕ = replicate (padding format (length body)) 0 in
-      omega (arith, length-append (record_bytes format number cs) rest, length-append body zeros,
-      length-replicate {A = ℕ} (padding format (length body)) 0)
+      omega (
+        arith,
+        length-append (record_bytes format number cs) rest,
+        length-append body zeros,
+        length-replicate {A = ℕ} (padding format (length body)) 0,
+      )
 
   pub size_is : body_size < 2 ^ 32 → number_at front 4 4 ≡ body_size
   size_is small =
@@ -255,10 +258,10 @@ module _ (format number : ℕ) (cs : List Change) (rest : List ℕ) where
   pub entry_is : body_size < 2 ^ 32 → number < 2 ^ 64 → length cs < 2 ^ 16
       → All (λ c. IsTrue (is_change c)) cs
       → entry_of format front ≡ record {
-    size = record_size format body_size;
-    number = number;
-    changes = cs;
-  }
+        size = record_size format body_size;
+        number = number;
+        changes = cs;
+      }
   entry_is small low few each =
       let read : changes_in (field front 16 body_size) ≡ Some cs =
       ap changes_in body_is ∙ read_body cs each few in
@@ -295,14 +298,16 @@ pub made : (bytes : List ℕ) (number : ℕ) (cs : List Change)
 made bytes number cs is each few low small =
     let some : length (body_of cs) < 2 ^ 32 = omega arith in
     let short : length cs < 2 ^ 16 = omega arith in
-    let e = ap (entry_of 2) is ∙ entry_is 2 number cs (CLOSED_GATE ∷ []) some low short each in
-    (record {
-      written = is ∙ ap (λ (x : Entry). record_bytes 2 x.number x.changes ++ CLOSED_GATE ∷ []) (sym e);
-      each = subst (λ (x : Entry). All (λ c. IsTrue (is_change c)) x.changes) (sym e) each;
-      count = subst (λ (x : Entry). length x.changes ≤ MAX_CHANGES) (sym e) few;
-      number = subst (λ (x : Entry). x.number < 2 ^ 64) (sym e) low;
-      size = omega (arith, ap length is, length_of_front 2 number cs (CLOSED_GATE ∷ []));
-    }, ap (λ (x : Entry). let r : RecordValue = record { changes = x.changes; number = x.number; size = x.size } in r) e)
+    let e = ap (entry_of 2) is ∙ entry_is 2 number cs (CLOSED_GATE ∷ []) some low short each in (
+      record {
+        written = is ∙ ap (λ (x : Entry). record_bytes 2 x.number x.changes ++ CLOSED_GATE ∷ []) (sym e);
+        each = subst (λ (x : Entry). All (λ c. IsTrue (is_change c)) x.changes) (sym e) each;
+        count = subst (λ (x : Entry). length x.changes ≤ MAX_CHANGES) (sym e) few;
+        number = subst (λ (x : Entry). x.number < 2 ^ 64) (sym e) low;
+        size = omega (arith, ap length is, length_of_front 2 number cs (CLOSED_GATE ∷ []));
+      },
+      ap (λ (x : Entry). let r : RecordValue = record { changes = x.changes; number = x.number; size = x.size } in r) e,
+    )
 
 -- what the rule of a record says of its bytes
 pub writable : (bytes : List ℕ) → IsRecord bytes → IsWritable (record_in bytes)
@@ -331,12 +336,14 @@ renumbered old new m is low e =
     let whole : new ≡ record_bytes 2 m cs ++ CLOSED_GATE ∷ [] =
     e ∙ ap (λ (l : List ℕ). take 8 l ++ (bytes_of 8 m ++ drop 16 l)) is.written in
     let here = made new m cs whole is.each is.count low long in
-    let size = ap (λ (r : RecordValue). r.size) (writable old is).is in
-    (here.0, here.1 ∙ ap (λ (n : ℕ). let r : RecordValue = record {
-      changes = cs;
-      number = m;
-      size = n;
-    } in r) (sym size))
+    let size = ap (λ (r : RecordValue). r.size) (writable old is).is in (
+      here.0,
+      here.1 ∙ ap (λ (n : ℕ). let r : RecordValue = record {
+        changes = cs;
+        number = m;
+        size = n;
+      } in r) (sym size),
+    )
 
 -- a slice that is written back whole
 pub written_back : (n : ℕ) (s items : List ℕ) → length items ≡ n → length s ≡ n
@@ -355,8 +362,12 @@ size_of_record bytes is =
     let cs = (entry_of 2 bytes).changes in
     let n = (entry_of 2 bytes).number in
     let w = writable bytes is in
-    omega (arith, ap length is.written, length_of_front 2 n cs (CLOSED_GATE ∷ []),
-    ap (λ (r : RecordValue). r.size) w.is)
+    omega (
+      arith,
+      ap length is.written,
+      length_of_front 2 n cs (CLOSED_GATE ∷ []),
+      ap (λ (r : RecordValue). r.size) w.is,
+    )
 
 -- a number that was put into its place
 pub put_back : (n m : ℕ) (r items s : List ℕ) → r ≡ items → length r ≡ n → 16 ≤ length items
@@ -366,9 +377,15 @@ put_back n m r items s same long enough is =
     let e : s ≡ take 8 items ++ (bytes_of 8 m ++ drop 16 items) =
     is ∙ ap (λ (l : List ℕ). take 8 l ++ (bytes_of 8 m ++ drop 16 l)) same in
     let total : length s ≡ n = omega (
-      arith, ap length e, ap length same, long, enough,
+      arith,
+      ap length e,
+      ap length same,
+      long,
+      enough,
       length-append (take 8 items) (bytes_of 8 m ++ drop 16 items),
-      length-append (bytes_of 8 m) (drop 16 items), length-bytes_of 8 m,
-      length-take 8 items, length-drop 16 items,
+      length-append (bytes_of 8 m) (drop 16 items),
+      length-bytes_of 8 m,
+      length-take 8 items,
+      length-drop 16 items,
     ) in
     written_back n s items (omega (arith, ap length same, long)) total ∙ e

@@ -1,11 +1,11 @@
 -- The records of a bank depend on the bytes in front of their end alone, and then on what stands
 -- there.
-use Rattle.std.proofs.Common.{◌≡◌, ◌≢◌, ℕ, zero, suc, ◌+◌, ◌-◌, ◌<◌, ◌≤◌, ◌^◌, List, [], ◌∷◌, ◌++◌}
+use Rattle.std.proofs.Common.{◌≡◌, ℕ, zero, suc, ◌+◌, ◌<◌, ◌≤◌, ◌^◌, List, [], ◌∷◌, ◌++◌}
 use Rattle.std.proofs.Common.{length, get_or, take, drop, refl, sym, ap, ◌∙◌, subst, arith, Option, Some}
-use Rattle.std.proofs.Common.{None, is_none, Bool, true, false, cond, not, All, IsTrue, fold}
-use Rattle.std.proofs.Common.{nat_lt, nat_eq, inl, inr}
-use Rattle.std.proofs.lemmas.Bool.{lt-ltb, ltb-true}
-use Rattle.std.proofs.lemmas.Bool.Decides.{nat_tests}
+use Rattle.std.proofs.Common.{None, is_none, Bool, true, false, not, All, IsTrue}
+use Rattle.std.proofs.Common.{nat_lt, nat_eq}
+use Rattle.std.proofs.Common.{append_assoc, length-append}
+use Rattle.std.proofs.lemmas.Bool.{lt-ltb}
 use Rattle.std.proofs.lemmas.List.{take-take, drop-take, get_or-take, drop-drop, length-drop}
 use Rattle.cu_base.specs.Fields.{field, number_at, number}
 use Rattle.cu_base.specs.Refusals.{first_refusal}
@@ -14,7 +14,8 @@ use Rattle.var_log.specs.declared.change.Change.{Change}
 use Rattle.var_log.specs.declared.limits.TheConstants.{OPEN_GATE, CLOSED_GATE}
 use Rattle.var_log.specs.Changes.{is_change}
 use Rattle.var_log.specs.Records.{Entry, entry_of, end_rows, entries_in, record_bytes, record_size}
-use Rattle.var_log.specs.Records.{body_of, is_next, padding, changes_in, LogEnd}
+use Rattle.var_log.specs.Records.{body_of, is_next, padding}
+use Rattle.var_log.specs.Records.{spelled, numbered, AreBatches}
 use Rattle.var_log.specs.Banks.{last_of, taken}
 use Rattle.var_log.proofs.Spelled.{goes_on, entry_is, rest_is}
 
@@ -58,12 +59,19 @@ same_entry format before old new stands same within =
     same_field s (16 + n) (padding format n) old new same (omega arith) in
     let fits : not (nat_lt s (length new)) ≡ false = rw (lt-ltb _ _ within) refl in
     record {
-      stands = none_refused (end_rows format before new)
-          (rw gate tests.0,
-          (rw size fits,
-          (rw (size, body) tests.1.1.0,
-          (rw (size, pad) tests.1.1.1.0,
-          (rw numbered tests.1.1.1.1.0, tt)))));
+      stands = none_refused (end_rows format before new) (
+        rw gate tests.0,
+        (
+          rw size fits,
+          (
+            rw (size, body) tests.1.1.0,
+            (
+              rw (size, pad) tests.1.1.1.0,
+              (rw numbered tests.1.1.1.1.0, tt),
+            ),
+          ),
+        ),
+      );
       entry = rw (size, numbered, body) refl;
     }
 
@@ -215,3 +223,35 @@ one_more most format before number cs rest small low few each next =
       number = number;
       changes = cs;
     } in e ∷ l) (closed_end most format (Some number) tail refl)
+
+-- batches that are spelled one behind another, and a closed gate behind them
+pub spelled_log : (batches : List (List Change)) (number more : ℕ) (before : Option ℕ) (rest : List ℕ)
+    → AreBatches before number batches
+    → entries_in (length batches + more) 2 before (spelled number batches ++ CLOSED_GATE ∷ rest)
+    ≡ numbered number batches
+spelled_log [] number more before rest are =
+    closed_end (length {A = List Change} [] + more) 2 before (CLOSED_GATE ∷ rest) refl
+spelled_log (cs ∷ batches) number more before rest are =
+    let tail : List ℕ = spelled (number + 1) batches ++ CLOSED_GATE ∷ rest in
+    let whole : List ℕ = record_bytes 2 number cs ++ tail in
+    let regroup : spelled number (cs ∷ batches) ++ CLOSED_GATE ∷ rest ≡ whole =
+    append_assoc (record_bytes 2 number cs) (spelled (number + 1) batches) (CLOSED_GATE ∷ rest) in
+    let some : 0 < length tail =
+    omega (arith, length-append (spelled (number + 1) batches) (CLOSED_GATE ∷ rest)) in
+    let none = goes_on 2 number cs tail before are.2 are.3 are.1 are.0 are.4 some in
+    let is = entry_is 2 number cs tail are.2 are.3 are.1 are.0 in
+    let shift : length (cs ∷ batches) + more ≡ suc (length batches + more) = omega arith in
+    ap (λ (k : ℕ). entries_in k 2 before (spelled number (cs ∷ batches) ++ CLOSED_GATE ∷ rest)) shift
+    ∙ ap (entries_in (suc (length batches + more)) 2 before) regroup
+    ∙ some_entry (length batches + more) 2 before whole (ap is_none none)
+    ∙ ap (λ (x : Entry). x ∷ entries_in (length batches + more) 2 (Some x.number) (drop x.size whole)) is
+    ∙ ap (λ (l : List ℕ). let e : Entry = record {
+      size = record_size 2 (length (body_of cs));
+      number = number;
+      changes = cs;
+    } in e ∷ entries_in (length batches + more) 2 (Some number) l) (rest_is 2 number cs tail)
+    ∙ ap (λ (l : List Entry). let e : Entry = record {
+      size = record_size 2 (length (body_of cs));
+      number = number;
+      changes = cs;
+    } in e ∷ l) (spelled_log batches (number + 1) more (Some number) rest are.5)

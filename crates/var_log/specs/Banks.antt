@@ -1,6 +1,6 @@
 -- The two banks of a flash, and the store that their bytes are (own format). A bank begins with a
 -- gate, the name 'CUV', the format (u32) and the generation (u64). Records follow from place 16.
-use Rattle.std.specs.Prelude.{◌≡◌, ℕ, ◌+◌, ◌-◌, ◌==◌, ◌&&◌, ◌||◌, Bool, List, [], ◌∷◌, ◌++◌, length}
+use Rattle.std.specs.Prelude.{ℕ, ◌+◌, ◌==◌, ◌&&◌, ◌||◌, Bool, List, [], ◌∷◌, ◌++◌, length}
 use Rattle.std.specs.Prelude.{drop, get_or, fold, Option, Some, None, option_map, unwrap_or, nat_lt}
 use Rattle.std.specs.Prelude.{if◌then◌else◌}
 use Rattle.std.specs.List.{flat_map}

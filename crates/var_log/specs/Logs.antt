@@ -3,7 +3,7 @@ use Rattle.std.specs.Prelude.{◌≡◌, ◌⊎◌, ℕ, ◌+◌, ◌-◌, ◌<�
 use Rattle.std.specs.Prelude.{get_or, Option, Some, None, option_map, unwrap_or, Result, Ok, Err}
 use Rattle.std.specs.Prelude.{if◌then◌else◌, ◌^◌, ◌&&◌, ◌||◌, nat_lt, nat_le}
 use Rattle.bench_model.specs.declared.limits.TheConstants.{MIN_BANK, MAX_BANK}
-use Rattle.bench_model.specs.Bench.{BenchValue, Contents, AreImages, IsRegionStable}
+use Rattle.bench_model.specs.Bench.{BenchValue, AreImages, IsRegionStable}
 use Rattle.var_log.specs.declared.change.Change.{Change}
 use Rattle.var_log.specs.declared.fault.LogFault.{LogFault}
 use Rattle.var_log.specs.declared.fault.LogFault.TheVariants.{Flash, NoBank, Full, Stale, Memory}

@@ -2,9 +2,10 @@
 -- (u64) and the body, which is a count (u16) and so many changes. Under format 2 zero bytes follow
 -- up to the next multiple of 8.
 use Rattle.std.specs.Prelude.{◌≡◌, ℕ, zero, suc, ◌+◌, ◌-◌, ◌%◌, ◌<◌, ◌≤◌, ◌^◌, ◌==◌, ◌&&◌, Bool, true, not}
-use Rattle.std.specs.Prelude.{List, [], ◌∷◌, ◌++◌, length, take, drop, get_or, replicate, All, IsTrue}
+use Rattle.std.specs.Prelude.{List, [], ◌∷◌, ◌++◌, length, drop, get_or, replicate, All, IsTrue}
 use Rattle.std.specs.Prelude.{Option, Some, None, is_none, option_map, option_and_then, unwrap_or}
 use Rattle.std.specs.Prelude.{if◌then◌else◌, nat_le, nat_lt}
+use Rattle.std.specs.Prelude.{codes}
 use Rattle.std.specs.List.{flat_map, list_all}
 use Rattle.cu_base.specs.Fields.{bytes_of, field, number_at}
 use Rattle.cu_base.specs.Refusals.{Row, row, first_refusal}
@@ -56,9 +57,11 @@ first_change bytes =
     let guid : Guid = record { bytes = field bytes (2 + n) 16 } in
     let size = number_at bytes (22 + n) 4 in
     if get_or bytes 0 0 == 1 && nat_le (26 + n) (length bytes) && is_name name
-        && nat_le size MAX_DATA && nat_le (26 + n + size) (length bytes)
-    then Some (Set name guid (number_at bytes (18 + n) 4) (field bytes (26 + n) size),
-        drop (26 + n + size) bytes)
+    && nat_le size MAX_DATA && nat_le (26 + n + size) (length bytes)
+    then Some (
+      Set name guid (number_at bytes (18 + n) 4) (field bytes (26 + n) size),
+      drop (26 + n + size) bytes,
+    )
     else if get_or bytes 0 0 == 2 && nat_le (18 + n) (length bytes) && is_name name
     then Some (Delete name guid, drop (18 + n) bytes)
     else None
@@ -123,8 +126,8 @@ entries_in zero format before bytes = []
 entries_in (suc most) format before bytes =
     if is_none (first_refusal (end_rows format before bytes))
     then entry_of format bytes
-        ∷ entries_in most format (Some (entry_of format bytes).number)
-        (drop (entry_of format bytes).size bytes)
+    ∷ entries_in most format (Some (entry_of format bytes).number)
+    (drop (entry_of format bytes).size bytes)
     else []
 
 -- what contracts see of a record: its changes, its number, and the bytes that it takes
@@ -169,3 +172,45 @@ pub record IsRecord (bytes : List ℕ) : Type 0 where
   pub count : length (entry_of 2 bytes).changes ≤ MAX_CHANGES
   pub number : (entry_of 2 bytes).number < 2 ^ 64
   pub size : length bytes ≤ MAX_RECORD + 1
+
+-- batches one behind another, under numbers from this one on
+abbrev pub spelled : ℕ → List (List Change) → List ℕ
+spelled number [] = []
+spelled number (changes ∷ batches) = record_bytes 2 number changes ++ spelled (number + 1) batches
+
+-- the records that they are
+abbrev pub numbered : ℕ → List (List Change) → List Entry
+numbered number [] = []
+numbered number (changes ∷ batches) =
+    record {
+      size = record_size 2 (length (body_of changes));
+      number = number;
+      changes = changes;
+    } ∷ numbered (number + 1) batches
+
+-- batches that may be written under numbers from this one on, which is the next
+abbrev pub AreBatches : Option ℕ → ℕ → List (List Change) → Type 0
+AreBatches before number [] = Unit {0}
+AreBatches before number (changes ∷ batches) =
+    All (λ c. IsTrue (is_change c)) changes × (length changes < 2 ^ 16)
+    × (length (body_of changes) < 2 ^ 32) × (number < 2 ^ 64) × (is_next before number ≡ true)
+    × AreBatches (Some number) (number + 1) batches
+
+-- the change of the first record of a fresh board, OsIndications of EFI_GLOBAL_VARIABLE (UEFI 2.10,
+-- 8.5.4) with EFI_OS_INDICATIONS_FILE_CAPSULE_DELIVERY_SUPPORTED, and its attributes 7
+abbrev pub first_record : Change
+first_record =
+    Set (codes "OsIndications")
+    (record {
+      bytes = 0x61 ∷ 0xDF ∷ 0xE4 ∷ 0x8B ∷ 0xCA ∷ 0x93 ∷ 0xD2 ∷ 0x11 ∷ 0xAA ∷ 0x0D ∷ 0x00 ∷ 0xE0
+          ∷ 0x98 ∷ 0x03 ∷ 0x2B ∷ 0x8C ∷ [];
+    }) 7 (4 ∷ 0 ∷ 0 ∷ 0 ∷ 0 ∷ 0 ∷ 0 ∷ 0 ∷ [])
+
+-- its 72 bytes by hand
+abbrev pub first_record_bytes : List ℕ
+first_record_bytes =
+    0x5A ∷ 0 ∷ 0 ∷ 0 ∷ 0x31 ∷ 0 ∷ 0 ∷ 0 ∷ 1 ∷ 0 ∷ 0 ∷ 0 ∷ 0 ∷ 0 ∷ 0 ∷ 0
+    ∷ 1 ∷ 0 ∷ 1 ∷ 0x0D ∷ 0x4F ∷ 0x73 ∷ 0x49 ∷ 0x6E ∷ 0x64 ∷ 0x69 ∷ 0x63 ∷ 0x61 ∷ 0x74 ∷ 0x69
+    ∷ 0x6F ∷ 0x6E ∷ 0x73 ∷ 0x61 ∷ 0xDF ∷ 0xE4 ∷ 0x8B ∷ 0xCA ∷ 0x93 ∷ 0xD2 ∷ 0x11 ∷ 0xAA ∷ 0x0D
+    ∷ 0x00 ∷ 0xE0 ∷ 0x98 ∷ 0x03 ∷ 0x2B ∷ 0x8C ∷ 7 ∷ 0 ∷ 0 ∷ 0 ∷ 8 ∷ 0 ∷ 0 ∷ 0
+    ∷ 4 ∷ 0 ∷ 0 ∷ 0 ∷ 0 ∷ 0 ∷ 0 ∷ 0 ∷ 0 ∷ 0 ∷ 0 ∷ 0 ∷ 0 ∷ 0 ∷ 0 ∷ []

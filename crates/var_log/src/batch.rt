@@ -40,7 +40,8 @@ impl Batch {
     pub fn has_key(&self, name: &str, guid: &Guid) -> bool
         ensures { result ≡ has_key guid.now name.now self.now.items }
     {
-        self.list.as_slice().iter().any(|c| c.guid().bytes == guid.bytes && c.name().as_str() == name)
+        self.list.as_slice().iter().any(|c| c.guid().bytes == guid.bytes
+            && c.name().as_str() == name)
     }
 
     /// Appends a change of another name or GUID than the changes before. It is Ok wherever `spare`

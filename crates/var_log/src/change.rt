@@ -16,7 +16,10 @@ pub enum Change {
         value: Blob,
     },
     /// There is no variable of this name and GUID.
-    Delete { name: Text, guid: Guid },
+    Delete {
+        name: Text,
+        guid: Guid,
+    },
 }
 
 impl Change {
@@ -43,7 +46,8 @@ impl Change {
         ensures { result ≡ keeps_limits self.now }
     {
         match self {
-            Change::Set { name, value, .. } => is_name(name.as_str().as_bytes()) && value.len() <= MAX_DATA,
+            Change::Set { name, value, .. } => is_name(name.as_str().as_bytes())
+                && value.len() <= MAX_DATA,
             Change::Delete { name, .. } => is_name(name.as_str().as_bytes()),
         }
     }

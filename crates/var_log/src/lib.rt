@@ -6,6 +6,7 @@ mod batch;
 mod change;
 mod fault;
 mod formatting;
+pub mod laws;
 mod limits;
 mod log;
 mod moving;

@@ -68,7 +68,9 @@ impl VarLog {
             return Ok(());
         }
         let n = record_len(live.as_slice());
-        if self.generation == u64::MAX || (self.size as usize) < BANK_HEAD + n + bytes as usize + 1 {
+        if self.generation == u64::MAX
+            || (self.size as usize) < BANK_HEAD + n + bytes as usize + 1
+        {
             return Err(LogFault::Full);
         }
         let written = match bank_bytes(alloc, self.generation + 1, self.seq, live.as_slice()) {
@@ -102,7 +104,12 @@ fn closing_place(other_gate: bool) -> u32
 }
 
 // What is written behind the gate of a reclaimed bank.
-fn bank_bytes(alloc: Global, generation: u64, seq: u64, live: &[Change]) -> Result<Vec<u8>, NoMemory>
+fn bank_bytes(
+    alloc: Global,
+    generation: u64,
+    seq: u64,
+    live: &[Change],
+) -> Result<Vec<u8>, NoMemory>
     requires limits { All (λ c. IsTrue (keeps_limits c)) live.now }
     requires count { length live.now ≤ MAX_CHANGES }
     requires size { record_size 2 (length (body_of live.now)) ≤ MAX_RECORD }

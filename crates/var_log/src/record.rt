@@ -175,7 +175,10 @@ fn change_len(change: &Change) -> usize
 {
     match change {
         Change::Set {
-            name, guid, value, ..
+            name,
+            guid,
+            value,
+            ..
         } => 10 + name.as_str().len() + id(guid).len() + value.len(),
         Change::Delete { name, guid } => 2 + name.as_str().len() + id(guid).len(),
     }

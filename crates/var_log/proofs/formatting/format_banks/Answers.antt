@@ -17,8 +17,12 @@ returns-in_err-open_behind-clause-images g c = λ blank.
     (g.F.BenchState.state c.shut-2.new.flash) (g.F.BenchState.state c.open_behind.new.flash)
     c.in_ok-shut.ensures.ok c.in_ok-shut.ensures.done c.shut-2.ensures.frame
     c.in_ok-shut-2.ensures.ok c.in_ok-shut-2.ensures.done c.open_behind.ensures.frame
-    (omega (arith, c.shut-2.ensures.long, ap length (c.shut.ensures.frame.bytes 0 (λ e. absurd cc)),
-    c.requires.banks.low)) c.open_behind.ensures.images
+    (omega (
+      arith,
+      c.shut-2.ensures.long,
+      ap length (c.shut.ensures.frame.bytes 0 (λ e. absurd cc)),
+      c.requires.banks.low,
+    )) c.open_behind.ensures.images
 
 pub returns-clause-images : goal.returns-clause-images
 returns-clause-images g c = λ blank.
@@ -26,8 +30,12 @@ returns-clause-images g c = λ blank.
     (g.F.BenchState.state c.shut-2.new.flash) (g.F.BenchState.state c.open_behind.new.flash)
     c.in_ok-shut.ensures.ok c.in_ok-shut.ensures.done c.shut-2.ensures.frame
     c.in_ok-shut-2.ensures.ok c.in_ok-shut-2.ensures.done c.open_behind.ensures.frame
-    (omega (arith, c.shut-2.ensures.long, ap length (c.shut.ensures.frame.bytes 0 (λ e. absurd cc)),
-    c.requires.banks.low)) c.open_behind.ensures.images
+    (omega (
+      arith,
+      c.shut-2.ensures.long,
+      ap length (c.shut.ensures.frame.bytes 0 (λ e. absurd cc)),
+      c.requires.banks.low,
+    )) c.open_behind.ensures.images
 
 pub returns-clause-durable : goal.returns-clause-durable
 returns-clause-durable g c =
@@ -35,5 +43,9 @@ returns-clause-durable g c =
     (g.F.BenchState.state c.shut-2.new.flash) (g.F.BenchState.state c.open_behind.new.flash)
     c.in_ok-shut.ensures.ok c.in_ok-shut.ensures.done c.shut-2.ensures.frame
     c.open_behind.ensures.frame c.in_ok-open_behind.ensures.ok
-    (omega (arith, c.shut-2.ensures.long, ap length (c.shut.ensures.frame.bytes 0 (λ e. absurd cc)),
-    c.requires.banks.low)) c.in_ok-open_behind.ensures.done
+    (omega (
+      arith,
+      c.shut-2.ensures.long,
+      ap length (c.shut.ensures.frame.bytes 0 (λ e. absurd cc)),
+      c.requires.banks.low,
+    )) c.in_ok-open_behind.ensures.done

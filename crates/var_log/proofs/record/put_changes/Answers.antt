@@ -16,9 +16,10 @@ loop-change-preserved c =
     let inv = c.loop-change.invariant in
     let more : take (i + 1) xs ≡ take i xs ++ x ∷ [] =
     take_more xs i x c.loop-change-test.true
-    ∙ ap (λ (d : Change). take i xs ++ d ∷ []) (sym c.change-item.is) in
-    (c.in_ok-put_change.ensures.ok ∙ ap (λ (l : List ℕ). l ++ change_bytes x) inv.0
-    ∙ flat_map_more change_bytes out (take i xs) x
-    ∙ ap (λ (l : List Change). out ++ flat_map change_bytes l) (sym more),
-    subst (λ (l : List Change). All (λ d. IsTrue (has_sizes d)) l) (sym more)
-    (All-push (λ d. IsTrue (has_sizes d)) (take i xs) x inv.1 c.in_ok-put_change.ensures.sizes))
+    ∙ ap (λ (d : Change). take i xs ++ d ∷ []) (sym c.change-item.is) in (
+      c.in_ok-put_change.ensures.ok ∙ ap (λ (l : List ℕ). l ++ change_bytes x) inv.0
+          ∙ flat_map_more change_bytes out (take i xs) x
+          ∙ ap (λ (l : List Change). out ++ flat_map change_bytes l) (sym more),
+      subst (λ (l : List Change). All (λ d. IsTrue (has_sizes d)) l) (sym more)
+          (All-push (λ d. IsTrue (has_sizes d)) (take i xs) x inv.1 c.in_ok-put_change.ensures.sizes),
+    )

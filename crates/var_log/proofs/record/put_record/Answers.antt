@@ -1,6 +1,5 @@
-use Rattle.std.proofs.Common.{rules, ◌≡◌, ap, sym, ◌∙◌, ◌++◌, ◌∷◌, [], List, ℕ, arith, length, replicate}
+use Rattle.std.proofs.Common.{rules, ap, ◌∙◌, ◌++◌, ◌∷◌, [], List, ℕ, length, replicate}
 use Rattle.std.specs.List.{flat_map}
-use Rattle.std.proofs.lemmas.List.{take-replicate}
 use Rattle.var_log.specs.declared.limits.TheConstants.{OPEN_GATE}
 use Rattle.var_log.specs.Records.{change_bytes, body_of, padding}
 use Rattle.var_log.proofs.Spelled.{assembled}

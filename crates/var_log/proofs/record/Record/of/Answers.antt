@@ -1,4 +1,4 @@
-use Rattle.std.proofs.Common.{◌≡◌, ◌∙◌, ◌++◌, ◌∷◌, [], List, ℕ, ap, sym, subst, arith, All, IsTrue}
+use Rattle.std.proofs.Common.{◌∙◌, ◌++◌, ◌∷◌, [], List, ℕ, ap, subst, arith, All, IsTrue}
 use Rattle.var_log.specs.declared.change.Change.{Change}
 use Rattle.var_log.specs.declared.limits.TheConstants.{CLOSED_GATE}
 use Rattle.var_log.specs.Changes.{has_sizes}
@@ -29,5 +29,5 @@ returns c =
     c.in_ok-put_record.ensures.sizes in
     record {
       value = (made c.put_record.new.out.items 0 cs is (are_changes cs c.requires.limits sizes)
-      c.requires.count (omega arith) c.requires.size).1;
+          c.requires.count (omega arith) c.requires.size).1;
     }
