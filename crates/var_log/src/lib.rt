@@ -12,6 +12,8 @@ mod log;
 mod moving;
 mod reclaiming;
 mod record;
+#[cfg(test)]
+mod tests;
 
 pub use batch::Batch;
 pub use change::{Change, is_name};
