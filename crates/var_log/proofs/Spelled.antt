@@ -314,7 +314,8 @@ pub writable : (bytes : List ℕ) → IsRecord bytes → IsWritable (record_in b
 writable bytes is =
     let cs = (entry_of 2 bytes).changes in
     let n = (entry_of 2 bytes).number in
-    let long : record_size 2 (length (body_of cs)) ≤ MAX_RECORD = omega (arith, ap length is.written, length_of_front 2 n cs (CLOSED_GATE ∷ []), is.size) in
+    let long : record_size 2 (length (body_of cs)) ≤ MAX_RECORD =
+    omega (arith, ap length is.written, length_of_front 2 n cs (CLOSED_GATE ∷ []), is.size) in
     let again = made bytes n cs is.written is.each is.count is.number long in
     record {
       is = again.1;

@@ -39,7 +39,9 @@ is_open bytes = get_or bytes 0 0 == OPEN_GATE && is_headed bytes
 -- of two banks the open one of the greater generation: 0 where they are equal
 abbrev pub choice : Bool → Bool → Bool → Option ℕ
 choice first second newer =
-    if first then (if second && newer then Some 1 else Some 0) else (if second then Some 1 else None)
+    if first
+    then (if second && newer then Some 1 else Some 0)
+    else (if second then Some 1 else None)
 
 -- which bank the log is in
 abbrev pub log_bank : (ℕ → List ℕ) → Option ℕ
@@ -94,8 +96,8 @@ with_batch s changes = record {
 abbrev pub empty_store : StoreValue
 empty_store = record { variables = no_variables; seq = 0; generation = 1 }
 
--- what is written behind the gate of a bank that becomes an empty log: its header, and a closed gate
--- where the first record would stand
+-- what is written behind the gate of a bank that becomes an empty log: its header, and a closed
+-- gate where the first record would stand
 abbrev pub empty_bank : List ℕ
 empty_bank = behind_bank_gate 2 1 ++ CLOSED_GATE ∷ []
 

@@ -1,5 +1,6 @@
 -- A log as it was opened, and the flash that it stands on.
-use Rattle.std.specs.Prelude.{◌≡◌, ◌⊎◌, ℕ, ◌+◌, ◌-◌, ◌<◌, ◌≤◌, ◌==◌, Bool, true, false, not, List, length}
+use Rattle.std.specs.Prelude.{◌≡◌, ◌⊎◌, ℕ, ◌+◌, ◌-◌, ◌<◌, ◌≤◌, ◌==◌, Bool, true, false}
+use Rattle.std.specs.Prelude.{not, List, length}
 use Rattle.std.specs.Prelude.{get_or, Option, Some, None, option_map, unwrap_or, Result, Ok, Err}
 use Rattle.std.specs.Prelude.{if◌then◌else◌, ◌^◌, ◌&&◌, ◌||◌, nat_lt, nat_le}
 use Rattle.bench_model.specs.declared.limits.TheConstants.{MIN_BANK, MAX_BANK}

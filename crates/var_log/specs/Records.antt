@@ -1,7 +1,8 @@
 -- Records of a log (own format): a gate, three bytes, the length of the body (u32), the number
 -- (u64) and the body, which is a count (u16) and so many changes. Under format 2 zero bytes follow
 -- up to the next multiple of 8.
-use Rattle.std.specs.Prelude.{◌≡◌, ℕ, zero, suc, ◌+◌, ◌-◌, ◌%◌, ◌<◌, ◌≤◌, ◌^◌, ◌==◌, ◌&&◌, Bool, true, not}
+use Rattle.std.specs.Prelude.{◌≡◌, ℕ, zero, suc, ◌+◌, ◌-◌, ◌%◌, ◌<◌, ◌≤◌, ◌^◌, ◌==◌, ◌&&◌, Bool}
+use Rattle.std.specs.Prelude.{true, not}
 use Rattle.std.specs.Prelude.{List, [], ◌∷◌, ◌++◌, length, drop, get_or, replicate, All, IsTrue}
 use Rattle.std.specs.Prelude.{Option, Some, None, is_none, option_map, option_and_then, unwrap_or}
 use Rattle.std.specs.Prelude.{if◌then◌else◌, nat_le, nat_lt}
@@ -77,7 +78,8 @@ changes_from (suc n) bytes =
 
 -- the changes that a body is exactly
 unfoldable pub changes_in : List ℕ → Option (List Change)
-changes_in body = if nat_lt (length body) 2 then None else changes_from (number_at body 0 2) (drop 2 body)
+changes_in body =
+    if nat_lt (length body) 2 then None else changes_from (number_at body 0 2) (drop 2 body)
 
 -- why what stands at a place of a log is no record of it
 pub data LogEnd : Type 0 where

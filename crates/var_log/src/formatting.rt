@@ -12,7 +12,8 @@ use crate::{LogFault, VarLog};
 use bench_model::Flash;
 use cu_base::Failed;
 
-/// The header of generation 1 behind its gate, and a closed gate where the first record would stand.
+/// The header of generation 1 behind its gate, and a closed gate where the first record would
+/// stand.
 const EMPTY: [u8; 16] = [b'C', b'U', b'V', 2, 0, 0, 0, 1, 0, 0, 0, 0, 0, 0, 0, 0xFF];
 
 impl VarLog {

@@ -62,7 +62,8 @@ impl VarLog {
         }
     }
 
-    /// The number of the batch whose append the flash failed, and None exactly where it failed none.
+    /// The number of the batch whose append the flash failed, and None exactly where it failed
+    /// none.
     pub fn pending(&self) -> Option<u64>
         ensures value { result ≡ self.now.pending }
     {

@@ -2,7 +2,8 @@
 
 ghost use Rattle.std.specs.Prelude.{◌≡◌, ◌+◌, ◌-◌, ◌^◌, ◌≤◌, ◌<◌, true, false, All, IsTrue, OnOk};
 ghost use Rattle.std.specs.Prelude.{length, IfOk, List, ℕ, if◌then◌else◌};
-ghost use Rattle.bench_model.specs.Bench.{ChangesRegion, FlashCause, HasRegion, IsWithin, IsRegionStable};
+ghost use Rattle.bench_model.specs.Bench.{ChangesRegion, FlashCause, HasRegion, IsWithin};
+ghost use Rattle.bench_model.specs.Bench.{IsRegionStable};
 ghost use Rattle.bench_model.specs.Bench.{region_at};
 ghost use Rattle.bench_model.specs.Regions.{IsImage};
 ghost use Rattle.cu_base.specs.Causes.{HasCauseOf};

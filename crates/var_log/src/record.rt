@@ -1,9 +1,11 @@
-ghost use Rattle.std.specs.Prelude.{◌≡◌, ◌≤◌, ◌<◌, ◌+◌, ◌^◌, ◌++◌, ◌∷◌, [], length, All, IsTrue, IfOk};
+ghost use Rattle.std.specs.Prelude.{◌≡◌, ◌≤◌, ◌<◌, ◌+◌, ◌^◌, ◌++◌, ◌∷◌, [], length, All, IsTrue};
+ghost use Rattle.std.specs.Prelude.{IfOk};
 ghost use Rattle.std.specs.Prelude.{OnOk, OnErr, replicate, take, drop};
 ghost use Rattle.std.specs.List.{flat_map};
 ghost use Rattle.cu_base.specs.Fields.{bytes_of};
 ghost use Rattle.var_log.specs.Changes.{keeps_limits, has_sizes};
-ghost use Rattle.var_log.specs.Records.{body_of, change_bytes, record_of, record_bytes, record_size};
+ghost use Rattle.var_log.specs.Records.{body_of, change_bytes, record_of, record_bytes};
+ghost use Rattle.var_log.specs.Records.{record_size};
 ghost use Rattle.var_log.specs.Records.{padding};
 
 use crate::limits::{CLOSED_GATE, MAX_CHANGES, MAX_RECORD, OPEN_GATE, RECORD_HEAD};

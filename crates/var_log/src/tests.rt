@@ -16,8 +16,14 @@ fn names_of_variables(rt: HostRuntime) {
         ("A", true),
         ("!~", true),
         ("OsIndications", true),
-        ("0123456789abcdef0123456789abcdef0123456789abcdef0123456789abcdef", true),
-        ("0123456789abcdef0123456789abcdef0123456789abcdef0123456789abcdef0", false),
+        (
+            "0123456789abcdef0123456789abcdef0123456789abcdef0123456789abcdef",
+            true,
+        ),
+        (
+            "0123456789abcdef0123456789abcdef0123456789abcdef0123456789abcdef0",
+            false,
+        ),
         ("two words", false),
         ("del\u{7f}", false),
         ("tab\t", false),
