@@ -216,3 +216,12 @@ RoomLeaves n bytes old new (Err NoBank) = ⊥
 RoomLeaves n bytes old new (Err Full) = new ≡ old
 RoomLeaves n bytes old new (Err Stale) = new ≡ old
 RoomLeaves n bytes old new (Err Memory) = new ≡ old
+
+-- where an answer is neither Ok nor Flash, nothing of the bench has changed
+abbrev pub StaysUnlessFlash : {T : Type 0} → BenchValue → BenchValue → Result T LogFault → Type 0
+StaysUnlessFlash old new (Ok x) = Unit {0}
+StaysUnlessFlash old new (Err Flash) = Unit {0}
+StaysUnlessFlash old new (Err NoBank) = new ≡ old
+StaysUnlessFlash old new (Err Full) = new ≡ old
+StaysUnlessFlash old new (Err Stale) = new ≡ old
+StaysUnlessFlash old new (Err Memory) = new ≡ old

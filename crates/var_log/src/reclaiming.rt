@@ -11,7 +11,7 @@ ghost use Rattle.var_log.specs.Banks.{reclaimed};
 ghost use Rattle.var_log.specs.Changes.{has_sizes, keeps_limits};
 ghost use Rattle.var_log.specs.Counts.{raised, with_room};
 ghost use Rattle.var_log.specs.Logs.{free_of, HasBanks, StandsOn, is_stale, is_full, is_log_full};
-ghost use Rattle.var_log.specs.Logs.{IsLive, KeepsVariables, RoomLeaves};
+ghost use Rattle.var_log.specs.Logs.{IsLive, KeepsVariables, RoomLeaves, StaysUnlessFlash};
 ghost use Rattle.var_log.specs.Moves.{IsReclaiming, Reclaims};
 ghost use Rattle.var_log.specs.Records.{body_of, record_size};
 
@@ -49,6 +49,7 @@ impl VarLog {
         ensures free { OnOk result (bytes ≤ free_of self.new) }
         ensures stands { OnOk result (StandsOn self.new (F.state flash.new)) }
         ensures refused { is_stale result ≡ self.old.stale }
+        ensures err { StaysUnlessFlash (F.state flash.old) (F.state flash.new) result }
         ensures full { self.old.stale ≡ false → is_full result
             ≡ is_log_full (record_size 2 (length (body_of live.now.items))) bytes self.old }
         ensures frame { ChangesRegion (1 - self.old.bank) (F.state flash.old) (F.state flash.new) }
