@@ -1,6 +1,11 @@
-//! The tests of the bench in memory. They stand in a crate of their own, since a crate with tests
+//! The tests of the bench in memory, of device slots over it, and of batches of variables. They
+//! stand in a crate of their own, since a crate with tests
 //! is proved twice, and call public things alone.
 #![tactic(auto)]
 
 #[cfg(test)]
+mod slots;
+#[cfg(test)]
 mod tests;
+#[cfg(test)]
+mod variables;

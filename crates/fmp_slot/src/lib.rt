@@ -17,8 +17,6 @@ mod one_bank;
 mod pieces;
 mod slot;
 mod steps;
-#[cfg(test)]
-mod tests;
 mod writer;
 
 pub use faults::SlotFault;

@@ -1,9 +1,9 @@
 //! A flash that tells nothing and reads another byte than was written.
 
 use super::{NEVER, REGION, begun, head};
-use crate::{SlotFault, set_image};
 use bench_model::{BenchState, Choice, Flash, SLOT_LEAD};
 use cu_base::{Failed, NoMemory, Ticket};
+use fmp_slot::{SlotFault, set_image};
 use mem_bench::MemBench;
 use std::test::Fail;
 

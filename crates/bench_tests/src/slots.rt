@@ -7,11 +7,11 @@ ghost use Rattle.bench_model.specs.Bench.{HasOrderRoom};
 ghost use Rattle.mem_bench.specs.State.{state_of};
 ghost use Rattle.fmp_slot.specs.Held.{IsBegun, IsToldStable};
 
-use crate::{MAX_KEPT_SECTION, Slot, SlotFault, SlotHead, look, set_image};
 use bench_model::{
     Bench, Board, Choice, Device, Devices, Digests, Flash, SLOT_LEAD, is_device_name,
 };
 use cu_base::{Guid, NoMemory, Text, Ticket};
+use fmp_slot::{MAX_KEPT_SECTION, Slot, SlotFault, SlotHead, look, set_image};
 use mem_bench::MemBench;
 use std::process::Abort;
 use std::test::Fail;
