@@ -28,13 +28,14 @@ def main():
             file.write(b"\x77" * IMAGE)
         cp = measure(["cp", path, copy], copy)
         start = measure([program], copy)
-        took = {word: measure([program, word], copy) for word in ["layout", "image", "small"]}
+        took = {word: measure([program, word], copy) for word in ["layout", "image", "small", "slot"]}
     memory = resident([program, "layout"])
     rows = [
         ("start of the program alone", f"{start:.1f} ms", "", True),
         ("cp of 64 MiB", f"{cp:.0f} ms", "", True),
         ("layout: 16 devices, 512 MiB in sum", f"{took['layout']:.1f} ms", "20 ms", took["layout"] < 20),
         ("image: 64 MiB written, synced, read", f"{took['image'] / cp:.1f} times cp", "6 times", took["image"] < 6 * cp),
+        ("slot: an image of 64 MiB set", f"{took['slot'] / cp:.1f} times cp", "8 times", took["slot"] < 8 * cp),
         ("small: 1,000 writes with syncs", f"{took['small']:.1f} ms", "50 ms", took["small"] < 50),
     ]
     if memory is not None:

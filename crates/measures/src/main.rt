@@ -6,6 +6,7 @@
 mod boards;
 mod image;
 mod pieces;
+mod slot;
 mod small;
 mod stop;
 
@@ -18,14 +19,15 @@ use stop::Stop;
 
 /// The words, each with what it does: a board of 16 devices with 512 MiB in sum is laid out; an
 /// image of 64 MiB is written in pieces, synced and read back; small writes with syncs go all over
-/// that board.
-const WORDS: [&str; 3] = ["layout", "image", "small"];
+/// that board; an image of 64 MiB is set as the slot of a device.
+const WORDS: [&str; 4] = ["layout", "image", "small", "slot"];
 
 fn main(rt: HostRuntime) -> ExitCode {
     let done = match words_of(&rt) {
         Some(0) => layout(rt.alloc()),
         Some(1) => image::measure(rt.alloc()),
-        Some(_) => small::measure(rt.alloc()),
+        Some(2) => small::measure(rt.alloc()),
+        Some(_) => slot::measure(rt.alloc()),
         None => tell_words(&rt),
     };
     match done {

@@ -1,4 +1,5 @@
 use cu_base::{Failed, NoMemory};
+use fmp_slot::SlotFault;
 use std::convert::From;
 use thiserror::Error;
 
@@ -23,6 +24,12 @@ impl From<NoMemory> for Stop {
 
 impl From<Failed> for Stop {
     fn from(_: Failed) -> Stop {
+        Stop::Failed
+    }
+}
+
+impl From<SlotFault> for Stop {
+    fn from(_: SlotFault) -> Stop {
         Stop::Failed
     }
 }
