@@ -1,6 +1,7 @@
 -- Places that follow one another by a function: they run into a cycle, or never come to one again.
 -- Nothing here speaks of memory.
-use Rattle.std.proofs.Common.{◌≡◌, ◌≢◌, ℕ, zero, suc, ◌+◌, ◌-◌, ◌<◌, ◌≤◌, refl, sym, ap, ◌∙◌, add-one, arith, subst, inl, inr}
+use Rattle.std.proofs.Common.{◌≡◌, ◌≢◌, ℕ, zero, suc, ◌+◌, ◌-◌, ◌<◌, ◌≤◌}
+use Rattle.std.proofs.Common.{refl, sym, ap, ◌∙◌, add-one, arith, subst, inl, inr}
 use Rattle.std.proofs.lemmas.Bool.{cases_lt}
 use Rattle.scatter_list.specs.Walk.{steps_on}
 use Rattle.scatter_list.specs.Going.{NoReturn, NoMeeting, IsPeriod}

@@ -10,6 +10,8 @@ mod descriptor;
 mod faults;
 mod limits;
 mod repeats;
+#[cfg(test)]
+mod tests;
 mod told;
 mod walk;
 

@@ -1,6 +1,6 @@
 //! The shape of a scatter list.
 
-ghost use Rattle.std.specs.Prelude.{◌≡◌, ◌+◌, ◌^◌, ◌≤◌, Some, IfOk};
+ghost use Rattle.std.specs.Prelude.{◌≡◌, ◌+◌, ◌^◌, ◌≤◌, Some, Ok, IfOk};
 ghost use Rattle.scatter_list.specs.Walk.{walk};
 
 use crate::descriptor::{behind, read_descriptor};
@@ -19,6 +19,8 @@ pub fn shape<M: PhysMem, L: Ledger>(
 ) -> Result<Shape, ShapeFault>
     requires room { steps.old ≤ 2 ^ 63 }
     ensures value { walk (M.segments memory.now) root ≡ Some result }
+    ensures rule { IfOk result (λ shape.
+        walk (M.segments memory.now) shape.root ≡ Some (Ok shape)) }
     ensures counts { IfOk result (λ shape. steps.new ≡ steps.old + shape.descriptors) }
     ensures bound { steps.new ≤ steps.old + MAX_STEPS }
 {

@@ -40,6 +40,14 @@ returns-then-is_end-clause-value g c =
     c.loop-index.invariant.sum c.if-at-ne0.false c.in-Some.ensures.value c.is_end.ensures.value
     c.if-is_end.true
 
+pub returns-then-is_end-clause-rule : goal.returns-then-is_end-clause-rule
+returns-then-is_end-clause-rule g c =
+    ok_here (g.M.PhysMem.segments c.args.memory.now) c.args.root c.loop-index.index
+    c.loop-index.at c.loop-index.total c.in-Some.descriptor c.is_end.result
+    c.loop-index-test.true c.loop-index.invariant.on c.loop-index.invariant.here
+    c.loop-index.invariant.sum c.if-at-ne0.false c.in-Some.ensures.value c.is_end.ensures.value
+    c.if-is_end.true
+
 pub loop-index-preserved : goal.loop-index-preserved
 loop-index-preserved g c =
     let memory = g.M.PhysMem.segments c.args.memory.now in
