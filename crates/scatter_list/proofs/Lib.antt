@@ -1,0 +1,4 @@
+pub mod BlockLemmas
+pub mod ReadLemmas
+pub mod Rho
+pub mod WalkLemmas

@@ -1,0 +1,5 @@
+pub mod Coalesced
+pub mod Descriptors
+pub mod Going
+pub mod Reads
+pub mod Walk
