@@ -19,9 +19,11 @@ pub(crate) fn text(alloc: Global, rt: &impl Abort, s: &str) -> Text
 /// A board of the device `sys` of index 1 and this instance, of version 3 and floor 2.
 pub(crate) fn board(alloc: Global, rt: &impl Abort, instance: u64) -> Board {
     let mut devices = Devices::new(alloc);
-    assert!(rt; is_device_name("sys"));
+    let name = text(alloc, rt, "sys");
+    assert!(rt; is_device_name(name.as_str()));
+    assert!(rt; instance < 0x8000_0000_0000_0000);
     let device = Device {
-        name: text(alloc, rt, "sys"),
+        name,
         type_id: Guid { bytes: SYS },
         index: 1,
         instance,

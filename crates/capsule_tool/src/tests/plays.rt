@@ -86,20 +86,15 @@ fn text_of(alloc: Global, lines: &[&str]) -> Result<Blob, NoMemory> {
     Ok(text)
 }
 
-/// Adds an input, with no contract, so that no test carries that of `add` into its goals.
-fn put(alloc: Global, inputs: &mut NoFaultInputs, name: &str, bytes: Blob) -> Result<(), NoMemory> {
-    inputs.add(Text::from_str(alloc, name)?, bytes)
-}
-
 /// The inputs of a play: the board, the script, three thin deliveries, and one that is not thin.
 fn given(alloc: Global, board: Blob, script: &[&str]) -> Result<NoFaultInputs, NoMemory> {
     let mut inputs = NoFaultInputs::new(alloc);
-    put(alloc, &mut inputs, "k.toml", board)?;
-    put(alloc, &mut inputs, "script", text_of(alloc, script)?)?;
-    put(alloc, &mut inputs, "c1", delivery(alloc, VERSION_1)?)?;
-    put(alloc, &mut inputs, "c2", delivery(alloc, VERSION_2)?)?;
-    put(alloc, &mut inputs, "c4", delivery(alloc, VERSION_4)?)?;
-    put(alloc, &mut inputs, "thick", joined(alloc, &[&GUID, &REST])?)?;
+    inputs.add(Text::from_str(alloc, "k.toml")?, board)?;
+    inputs.add(Text::from_str(alloc, "script")?, text_of(alloc, script)?)?;
+    inputs.add(Text::from_str(alloc, "c1")?, delivery(alloc, VERSION_1)?)?;
+    inputs.add(Text::from_str(alloc, "c2")?, delivery(alloc, VERSION_2)?)?;
+    inputs.add(Text::from_str(alloc, "c4")?, delivery(alloc, VERSION_4)?)?;
+    inputs.add(Text::from_str(alloc, "thick")?, joined(alloc, &[&GUID, &REST])?)?;
     Ok(inputs)
 }
 
@@ -361,9 +356,9 @@ fn expect_sizes(
     let alloc = rt.alloc();
     let mut inputs = NoFaultInputs::new(alloc);
     let board = filled(alloc, &ONE_DEVICE, board)?;
-    put(alloc, &mut inputs, "k.toml", board)?;
+    inputs.add(Text::from_str(alloc, "k.toml")?, board)?;
     let script = filled(alloc, &[], script)?;
-    put(alloc, &mut inputs, "script", script)?;
+    inputs.add(Text::from_str(alloc, "script")?, script)?;
     let mut out = NoFaultSink::new(alloc);
     let words = ["play", "k.toml", "script"];
     let outcome = run_words(alloc, &words, &mut inputs, &mut out)?;
@@ -415,13 +410,13 @@ fn large(alloc: Global) -> Result<NoFaultInputs, NoMemory> {
     let mut inputs = NoFaultInputs::new(alloc);
     let script = ["drop a a", "drop b b", "drop c c", "drop d d", "drop e e"];
     let board = text_of(alloc, &ONE_DEVICE)?;
-    put(alloc, &mut inputs, "k.toml", board)?;
-    put(alloc, &mut inputs, "script", text_of(alloc, &script)?)?;
-    put(alloc, &mut inputs, "a", largest(alloc)?)?;
-    put(alloc, &mut inputs, "b", largest(alloc)?)?;
-    put(alloc, &mut inputs, "c", largest(alloc)?)?;
-    put(alloc, &mut inputs, "d", largest(alloc)?)?;
-    put(alloc, &mut inputs, "e", delivery(alloc, VERSION_4)?)?;
+    inputs.add(Text::from_str(alloc, "k.toml")?, board)?;
+    inputs.add(Text::from_str(alloc, "script")?, text_of(alloc, &script)?)?;
+    inputs.add(Text::from_str(alloc, "a")?, largest(alloc)?)?;
+    inputs.add(Text::from_str(alloc, "b")?, largest(alloc)?)?;
+    inputs.add(Text::from_str(alloc, "c")?, largest(alloc)?)?;
+    inputs.add(Text::from_str(alloc, "d")?, largest(alloc)?)?;
+    inputs.add(Text::from_str(alloc, "e")?, delivery(alloc, VERSION_4)?)?;
     Ok(inputs)
 }
 
