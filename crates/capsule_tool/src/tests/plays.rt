@@ -94,7 +94,10 @@ fn given(alloc: Global, board: Blob, script: &[&str]) -> Result<NoFaultInputs, N
     inputs.add(Text::from_str(alloc, "c1")?, delivery(alloc, VERSION_1)?)?;
     inputs.add(Text::from_str(alloc, "c2")?, delivery(alloc, VERSION_2)?)?;
     inputs.add(Text::from_str(alloc, "c4")?, delivery(alloc, VERSION_4)?)?;
-    inputs.add(Text::from_str(alloc, "thick")?, joined(alloc, &[&GUID, &REST])?)?;
+    inputs.add(
+        Text::from_str(alloc, "thick")?,
+        joined(alloc, &[&GUID, &REST])?,
+    )?;
     Ok(inputs)
 }
 
