@@ -5,8 +5,8 @@ Usage: python3 bench/bench.py [PROGRAM]
 
 PROGRAM is crates/measures/out/measures unless another is named; `rt run` in crates/measures makes it. Each command runs
 nine times, and the least time counts. The start of a process alone is measured too (the program with no word). `cp` copies
-a file of 64 MiB. Memory is the greatest resident set, told by a process that holds little itself. A wish that is not met
-ends the run with 1.
+a file of 64 MiB. The time of `join` is what it takes more than `list`, which lays the same memory. Memory of `layout` is
+the greatest resident set, told by a process that holds little itself. A wish that is not met ends the run with 1.
 """
 import os
 import sys
@@ -18,6 +18,8 @@ HERE = os.path.dirname(os.path.abspath(__file__))
 PROGRAM = os.path.join(HERE, "..", "crates", "measures", "out", "measures")
 IMAGE = 67_108_864
 MEBIBYTE = 2**20
+WORDS = ["layout", "image", "small", "slot", "walk", "list", "join", "log", "log_reads"]
+OPENS = 20
 
 
 def main():
@@ -28,7 +30,9 @@ def main():
             file.write(b"\x77" * IMAGE)
         cp = measure(["cp", path, copy], copy)
         start = measure([program], copy)
-        took = {word: measure([program, word], copy) for word in ["layout", "image", "small", "slot"]}
+        took = {word: measure([program, word], copy) for word in WORDS}
+    join = took["join"] - took["list"]
+    log = (took["log"] - took["log_reads"]) / OPENS
     memory = resident([program, "layout"])
     rows = [
         ("start of the program alone", f"{start:.1f} ms", "", True),
@@ -37,6 +41,10 @@ def main():
         ("image: 64 MiB written, synced, read", f"{took['image'] / cp:.1f} times cp", "6 times", took["image"] < 6 * cp),
         ("slot: an image of 64 MiB set", f"{took['slot'] / cp:.1f} times cp", "8 times", took["slot"] < 8 * cp),
         ("small: 1,000 writes with syncs", f"{took['small']:.1f} ms", "50 ms", took["small"] < 50),
+        ("walk: 65,536 descriptors in 256 segments", f"{took['walk']:.1f} ms", "100 ms", took["walk"] < 100),
+        ("join: a list of one block of 64 MiB", f"{join / cp:.1f} times cp", "3 times", join < 3 * cp),
+        ("log: a full bank of 1 MiB opened, once of 20", f"{log:.2f} ms", "20 ms", log < 20),
+        ("log_reads: made, and read 20 times", f"{took['log_reads']:.1f} ms", "", True),
     ]
     if memory is not None:
         rows.append(("memory of layout", f"{memory / MEBIBYTE:.1f} MiB", "16 MiB", memory < 16 * MEBIBYTE))

@@ -1,3 +1,4 @@
 pub mod DeviceLemmas
 pub mod ImageLemmas
 pub mod MemoryLemmas
+pub mod OverlayLemmas

@@ -27,3 +27,9 @@ lacking_last memory at n each fits more = record {
   within = more;
   gone = byte_at-behind memory (at + (2 ^ 64 - 1 - at)) each (omega arith);
 }
+
+pub lacking_at : (memory : List Segment) (at place end : ℕ) → at ≤ place → place < end
+    → byte_at memory place ≡ None → IsLacking memory at (end - at)
+lacking_at memory at place end low high gone =
+    let is : at + (place - at) ≡ place = omega arith in
+    record { place = place - at; within = omega arith; gone = ap (byte_at memory) is ∙ gone }

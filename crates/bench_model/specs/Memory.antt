@@ -2,8 +2,8 @@
 -- ones. The address 2^64 - 1 is never there.
 use Rattle.std.specs.Prelude.{◌≡◌, ℕ, ◌+◌, ◌-◌, ◌^◌, ◌<◌, ◌≤◌, ◌&&◌, ◌||◌, nat_le, nat_lt, List, []}
 use Rattle.std.specs.Prelude.{◌∷◌, ◌++◌, length, get_or, sum_by, fold, All, Option, Some, None}
-use Rattle.std.specs.Prelude.{Result, Ok, Err, if◌then◌else◌}
-use Rattle.std.specs.Option.{option_or}
+use Rattle.std.specs.Prelude.{Result, Ok, Err, IsSome, if◌then◌else◌}
+use Rattle.std.specs.Option.{option_or, unwrap_or}
 use Rattle.bench_model.specs.declared.faults.LayFault.{LayFault}
 use Rattle.bench_model.specs.declared.faults.LayFault.TheVariants.{Wraps, Full, Memory}
 use Rattle.bench_model.specs.declared.outside_limits.TheConstants.{MAX_MEMORY_BYTES, MAX_SEGMENTS}
@@ -23,6 +23,22 @@ byte_at memory address = fold (λ found s. option_or (byte_of address s) found) 
 pub record IsThere (memory : List Segment) (at : ℕ) (bytes : List ℕ) : Type 0 where
   pub each : (k : ℕ) → k < length bytes → byte_at memory (at + k) ≡ Some (get_or bytes k 0)
   pub end : at + length bytes ≤ 2 ^ 64 - 1
+
+-- the bytes between two addresses are all there
+abbrev pub IsThereTo : List Segment → ℕ → ℕ → Type 0
+IsThereTo memory at end = (k : ℕ) → at ≤ k → k < end → IsSome (byte_at memory k)
+
+-- bytes that were read from an address on, after those of one segment were copied over them
+abbrev pub Overlays : Segment → ℕ → List ℕ → List ℕ → Type 0
+Overlays s at old new =
+    (k : ℕ) → k < length old
+    → get_or new k 0 ≡ unwrap_or (byte_of (at + k) s) (get_or old k 0)
+
+-- the bytes that stand in memory were read from an address on; where none stands, anything was
+abbrev pub IsShown : List Segment → ℕ → List ℕ → Type 0
+IsShown memory at bytes =
+    (k : ℕ) → k < length bytes
+    → get_or bytes k 0 ≡ unwrap_or (byte_at memory (at + k)) (get_or bytes k 0)
 
 -- of so many bytes from an address on one is not there
 pub record IsLacking (memory : List Segment) (at n : ℕ) : Type 0 where

@@ -95,7 +95,7 @@ impl PhysMem for Segments {
         if out.len() as u64 > u64::MAX - at {
             return false;
         }
-        if !are_there(segments, at, out.len()) {
+        if !are_there(segments, at, at + out.len() as u64) {
             return false;
         }
         copy_out(segments, at, out);

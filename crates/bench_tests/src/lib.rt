@@ -1,11 +1,8 @@
-//! The tests of the bench in memory, of device slots over it, and of batches of variables. They
-//! stand in a crate of their own, since a crate with tests
-//! is proved twice, and call public things alone.
+//! The tests of the bench in memory and of device slots over it. They stand in a crate of their own,
+//! since a crate with tests is proved twice, and call public things alone.
 #![tactic(auto)]
 
 #[cfg(test)]
 mod slots;
 #[cfg(test)]
 mod tests;
-#[cfg(test)]
-mod variables;

@@ -65,7 +65,7 @@ pub fn bound(body: &[u8], k: u32) -> usize
     start_of(body, body.len(), k)
 }
 
-/// The bytes of item `k`.
+/// The bytes of item `k` of a body: drivers first, then images.
 pub fn item(body: &[u8], k: u32) -> &[u8]
     requires list { list_end body.now ≤ length body.now }
     requires bounds { AreBounds body.now (length body.now) }

@@ -6,11 +6,12 @@
 //! never both: these are the laws of `laws`. `check` takes no memory and copies nothing. `decode`
 //! gives the capsule in blobs of its own, `decode_all` one to eight of them back to back, and
 //! `encode` writes one. `rebuild` writes the capsule at the front of bytes again without its lead
-//! and its pads. `check_fmp_header`, `check_offsets` and `check_image` judge a part by its first
+//! and its pads. The calls of `accepted`, `item` and `lead` give the parts of bytes that
+//! `check` accepted, where they stand. `check_fmp_header`, `check_offsets` and `check_image` judge a part by its first
 //! bytes and its length, for a reader that does not keep the rest.
 #![tactic(auto)]
 
-mod accepted;
+pub mod accepted;
 mod all;
 mod checking;
 mod decoding;
@@ -27,7 +28,7 @@ mod sizes;
 mod value;
 
 pub use all::{MAX_CAPSULES, decode_all};
-pub use checking::check;
+pub use checking::{check, item};
 pub use decoding::decode;
 pub use encoding::encode;
 pub use faults::{DecodeFault, EncodeFault};
@@ -36,6 +37,7 @@ pub use header::{check_capsule_header, is_fmp_guid};
 pub use parts::{
     check_fmp_header, check_image, check_offsets, driver_count, image_count, item_count, start_of,
 };
+pub use reading::lead;
 pub use rebuilding::{is_rebuilt, rebuild};
 pub use refusal::{Refusal, Why};
-pub use value::{Body, Capsule, Capsules, FmpBody, Image, Images};
+pub use value::{Body, Capsule, Capsules, FmpBody, Image, ImageView, Images};

@@ -8,13 +8,13 @@ ghost use Rattle.capsule_grammar.specs.Reading.{image_of, fmp_of, body_read, cap
 ghost use Rattle.capsule_grammar.specs.Refusals.{is_fmp_guid, body_of, driver_count, image_count};
 ghost use Rattle.capsule_grammar.specs.Refusals.{item};
 
-use crate::accepted::{body, capsule_header, image_header, part};
+use crate::accepted::{body, capsule_header, image_view};
 use crate::checking::{bound, item};
 use crate::header::is_fmp_guid;
 use crate::parts::{driver_count, image_count, list_end};
 use crate::{Body, Capsule, FmpBody, Image, Images};
 use cu_base::{Blob, Blobs, NoMemory};
-use fmp_headers::{CAPSULE_HEADER_BYTES, image_header_size};
+use fmp_headers::CAPSULE_HEADER_BYTES;
 use std::alloc::Global;
 
 /// The capsule at the front.
@@ -59,7 +59,7 @@ fn read_fmp(alloc: Global, body: &[u8]) -> Result<FmpBody, NoMemory>
     })
 }
 
-/// What stands between the offset list and the first item.
+/// What stands between the offset list of a body and its first item.
 pub fn lead(body: &[u8]) -> &[u8]
     requires { IsFmpBody body.now }
     ensures { result.now ≡ (fmp_of body.now).lead }
@@ -97,18 +97,15 @@ fn read_images(alloc: Global, body: &[u8]) -> Result<Images, NoMemory>
 }
 
 /// Header, update image, vendor code and pad of an image item.
-fn read_image(alloc: Global, image: &[u8]) -> Result<Image, NoMemory>
-    requires { IsImageItem image.now }
-    ensures { IfOk result (λ i. i ≡ image_of image.now) }
+fn read_image(alloc: Global, item: &[u8]) -> Result<Image, NoMemory>
+    requires { IsImageItem item.now }
+    ensures { IfOk result (λ i. i ≡ image_of item.now) }
 {
-    let header = image_header(image);
-    let from = image_header_size(header.version) as usize;
-    let size = header.image_size as usize;
-    let vendor = header.vendor_size as usize;
+    let view = image_view(item);
     Ok(Image {
-        header,
-        image: Blob::from_slice(alloc, part(image, from, size))?,
-        vendor: Blob::from_slice(alloc, part(image, from + size, vendor))?,
-        pad: Blob::from_slice(alloc, &image[from + size + vendor..])?,
+        header: view.header,
+        image: Blob::from_slice(alloc, view.image)?,
+        vendor: Blob::from_slice(alloc, view.vendor)?,
+        pad: Blob::from_slice(alloc, view.pad)?,
     })
 }

@@ -50,6 +50,15 @@ pub struct Image {
     pub pad: Blob,
 }
 
+/// An image item as slices of its bytes: its header, the update image, the vendor code and the pad.
+#[derive(Clone, Copy, Debug, PartialEq, Eq)]
+pub struct ImageView<'a> {
+    pub header: ImageHeader,
+    pub image: &'a [u8],
+    pub vendor: &'a [u8],
+    pub pad: &'a [u8],
+}
+
 /// A list of images.
 pub type Images = Items<Image>;
 

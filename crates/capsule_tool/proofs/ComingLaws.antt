@@ -7,68 +7,64 @@ use Rattle.bench_model.specs.Boards.{BoardValue}
 use Rattle.cu_io.specs.Named.{Named}
 use Rattle.reset_play.specs.ScriptInputs.{inputs_of}
 use Rattle.reference_machine.specs.declared.event.Event.{Event}
-use Rattle.capsule_tool.specs.Plays.{input_work, inputs_work, events_work, played}
+use Rattle.capsule_tool.specs.Loads.{Loading, loads_work}
+use Rattle.capsule_tool.specs.Plays.{inputs_work, events_work}
 use Rattle.cu_io.specs.Seen.{Seen}
 use Rattle.capsule_tool.specs.Steps.{StopsAt}
 use Rattle.capsule_tool.specs.Works.{Work, ComesTo}
-use Rattle.capsule_tool.specs.Works.Work.{Finds}
 use Rattle.capsule_tool.specs.declared.stop.Stop.{Stop}
 use Rattle.capsule_tool.proofs.WorkLaws.{through, then_stops, stays}
 
 -- the work on these names has come to those from the i-th on, where the others are loaded
-pub record HasCome (named : Option Named) (board : BoardValue) (names : List (List ℕ))
+pub record HasCome (load : Loading) (named : Option Named) (names : List (List ℕ))
     (before : Seen) (loaded : Named) (sum i : ℕ) (after : Seen) : Type 0 where
-  pub comes : (events : List Event)
-      → ComesTo named (inputs_work board events [] 0 names) before
-      (inputs_work board events loaded sum (drop i names)) after
+  pub comes : (next : Named → Work)
+      → ComesTo named (loads_work load next [] 0 names) before
+      (loads_work load next loaded sum (drop i names)) after
 
-pub come_start : (named : Option Named) (board : BoardValue) (names : List (List ℕ)) (b : Seen)
-    (loaded : Named) → loaded ≡ [] → HasCome named board names b loaded 0 0 b
-come_start named board names b loaded is = record {
-  comes =
-      λ events. rw is (stays named (inputs_work board events [] 0 names) b);
-}
+pub come_start : (load : Loading) (named : Option Named) (names : List (List ℕ)) (b : Seen)
+    (loaded : Named) → loaded ≡ [] → HasCome load named names b loaded 0 0 b
+come_start load named names b loaded is =
+    record { comes = λ next. rw is (stays named (loads_work load next [] 0 names) b) }
 
 -- the work on the names from a place on, where one stands there
-opens : (board : BoardValue) (events : List Event) (loaded : Named) (sum i : ℕ)
+opens : (load : Loading) (next : Named → Work) (loaded : Named) (sum i : ℕ)
     (names : List (List ℕ)) (name : List ℕ) → drop i names ≡ name ∷ drop (i + 1) names
-    → inputs_work board events loaded sum (drop i names)
-    ≡ input_work board loaded sum name (λ loaded' sum'. inputs_work board events loaded' sum'
-    (drop (i + 1) names))
-opens board events loaded sum i names name is = ap (inputs_work board events loaded sum) is
+    → loads_work load next loaded sum (drop i names)
+    ≡ load loaded sum name (λ loaded' sum'. loads_work load next loaded' sum' (drop (i + 1) names))
+opens load next loaded sum i names name is = ap (loads_work load next loaded sum) is
 
-pub come_on : (named' named : Option Named) (board : BoardValue) (names : List (List ℕ)) (b : Seen)
+pub come_on : (load : Loading) (named' named : Option Named) (names : List (List ℕ)) (b : Seen)
     (loaded : Named) (sum i : ℕ) (m : Seen)
     (name : List ℕ) (loaded' : Named) (sum' : ℕ) (a : Seen)
-    → HasCome named board names b loaded sum i m → drop i names ≡ name ∷ drop (i + 1) names
+    → HasCome load named names b loaded sum i m → drop i names ≡ name ∷ drop (i + 1) names
     → named' ≡ named → ((rest : Named → ℕ → Work)
-    → ComesTo named' (input_work board loaded sum name rest) m (rest loaded' sum') a)
-    → HasCome named board names b loaded' sum' (i + 1) a
-come_on named' named board names b loaded sum i m name loaded' sum' a come is same then = record {
-  comes = λ events.
-      through named (inputs_work board events [] 0 names) b _ m _ a
-      (rw (opens board events loaded sum i names name is) at (come.comes events))
-      (rw same at (then (λ loaded sum. inputs_work board events loaded sum (drop (i + 1) names))));
+    → ComesTo named' (load loaded sum name rest) m (rest loaded' sum') a)
+    → HasCome load named names b loaded' sum' (i + 1) a
+come_on load named' named names b loaded sum i m name loaded' sum' a come is same then = record {
+  comes = λ next.
+      through named (loads_work load next [] 0 names) b _ m _ a
+      (rw (opens load next loaded sum i names name is) at (come.comes next))
+      (rw same at (then (λ loaded sum. loads_work load next loaded sum (drop (i + 1) names))));
 }
 
-pub come_stopped : (board : BoardValue) (names : List (List ℕ)) (b : Seen) (loaded : Named)
+pub come_stopped : (load : Loading) (names : List (List ℕ)) (b : Seen) (loaded : Named)
     (sum i : ℕ) (m : Seen) (name : List ℕ) (a : Seen) (stop : Stop)
-    → HasCome b.named board names b loaded sum i m → drop i names ≡ name ∷ drop (i + 1) names
+    → HasCome load b.named names b loaded sum i m → drop i names ≡ name ∷ drop (i + 1) names
     → m.named ≡ b.named
-    → ((rest : Named → ℕ → Work) → StopsAt (input_work board loaded sum name rest) m a stop)
-    → (events : List Event) → StopsAt (inputs_work board events [] 0 names) b a stop
-come_stopped board names b loaded sum i m name a stop come is same stops events =
-    then_stops (inputs_work board events [] 0 names) b _ m a stop
-    (rw (opens board events loaded sum i names name is) at (come.comes events)) same
-    (stops (λ loaded sum. inputs_work board events loaded sum (drop (i + 1) names)))
+    → ((rest : Named → ℕ → Work) → StopsAt (load loaded sum name rest) m a stop)
+    → (next : Named → Work) → StopsAt (loads_work load next [] 0 names) b a stop
+come_stopped load names b loaded sum i m name a stop come is same stops next =
+    then_stops (loads_work load next [] 0 names) b _ m a stop
+    (rw (opens load next loaded sum i names name is) at (come.comes next)) same
+    (stops (λ loaded sum. loads_work load next loaded sum (drop (i + 1) names)))
 
-pub come_done : (named : Option Named) (board : BoardValue) (names : List (List ℕ)) (b : Seen)
+pub come_done : (load : Loading) (named : Option Named) (names : List (List ℕ)) (b : Seen)
     (loaded : Named) (sum i : ℕ) (a : Seen)
-    → HasCome named board names b loaded sum i a → drop i names ≡ []
-    → (events : List Event)
-    → ComesTo named (inputs_work board events [] 0 names) b (Finds (played board events loaded))
-    a
-come_done named board names b loaded sum i a come is events = rw is at (come.comes events)
+    → HasCome load named names b loaded sum i a → drop i names ≡ []
+    → (next : Named → Work)
+    → ComesTo named (loads_work load next [] 0 names) b (next loaded) a
+come_done load named names b loaded sum i a come is next = rw is at (come.comes next)
 
 -- places
 pub item_drop : (names : List (List ℕ)) (i : ℕ) (name : List ℕ) → i < length names

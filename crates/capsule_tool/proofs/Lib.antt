@@ -2,10 +2,12 @@ pub mod ComingLaws
 pub mod FileLaws
 pub mod ImageLaws
 pub mod JudgeLaws
+pub mod MakeLaws
 pub mod NameLaws
 pub mod PlayLaws
 pub mod RunLaws
 pub mod ScanLaws
+pub mod ShowLaws
 pub mod ThinLaws
 pub mod ThinPlaces
 pub mod VerdictLaws

@@ -2,9 +2,10 @@
 use Rattle.std.proofs.Common.{◌≡◌, ℕ, zero, suc, Bool, true, false, not, ◌&&◌, ◌||◌, cond, List, []}
 use Rattle.std.proofs.Common.{◌∷◌, get_or, map, take, drop, Option, None, Some, refl, sym, ◌∙◌, ap}
 use Rattle.std.specs.Prelude.{unwrap_or}
-use Rattle.std.specs.List.{list_all, filter, filter_map, AllByRecursion}
+use Rattle.std.specs.List.{list_all, filter, filter_map, AllByRecursion, IsDistinct}
 use Rattle.std.specs.Str.{bytes_eq}
 use Rattle.std.proofs.Math.Seq.{drop-nil}
+use Rattle.std.proofs.lemmas.Map.Keys.{IsDistinct-head, IsDistinct-tail}
 use Rattle.std.proofs.lemmas.Slice.Eq.{bytes_eq-Decides}
 use Rattle.bench_model.specs.Boards.{BoardValue}
 use Rattle.cu_io.specs.Named.{Named, bytes_named, LacksName}
@@ -48,6 +49,13 @@ all_at : (P : List ℕ → Type 0) (n : List ℕ) (names : List (List ℕ)) (i :
 all_at P n [] i rest is all = absurd (nil_cons (sym (drop-nil i) ∙ is))
 all_at P n (name ∷ names) zero rest is (holds, all) = rw (heads name n names rest is) at holds
 all_at P n (name ∷ names) (suc i) rest is (holds, all) = all_at P n names i rest is all
+
+pub distinct_names : (names : List (List ℕ)) → IsDistinct bytes_eq names → Distinct bytes_eq names
+distinct_names [] distinct = tt
+distinct_names (name ∷ names) distinct = (
+  IsDistinct-head bytes_eq name names distinct,
+  distinct_names names (IsDistinct-tail bytes_eq name names distinct),
+)
 
 -- a name at a place is none of those before it
 pub new_at : (names : List (List ℕ)) (i : ℕ) (n : List ℕ) (rest : List (List ℕ))

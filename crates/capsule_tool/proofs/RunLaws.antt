@@ -10,15 +10,25 @@ use Rattle.cu_base.specs.Causes.{Rose, RoseBy}
 use Rattle.cu_io.specs.Named.{Named, bytes_named, IsMissing}
 use Rattle.recipe_files.specs.Boards.{board_text}
 use Rattle.recipe_files.specs.declared.faults.BadKind.{BadKind}
+use Rattle.recipe_files.specs.Builds.{contents_of, capsule_of as recipe_capsule}
+use Rattle.recipe_files.specs.Mentions.{inputs_of as recipe_names}
+use Rattle.recipe_files.specs.Recipes.{RecipeValue}
+use Rattle.recipe_files.specs.RecipeTexts.{recipe_text}
 use Rattle.reset_play.specs.Plays.{has_one_device, is_of_files, is_thin_on}
 use Rattle.reset_play.specs.ScriptInputs.{inputs_of}
 use Rattle.reset_play.specs.ScriptText.{ScriptSaid, script_said}
 use Rattle.reference_machine.specs.declared.event.Event.{Event}
 use Rattle.capsule_tool.specs.Answers.{usage, later, unread, long}
 use Rattle.capsule_tool.specs.Verdicts.{verdict_of}
-use Rattle.capsule_tool.specs.Files.{verdict_answer, rebuilt_by}
+use Rattle.capsule_grammar.specs.Fits.{is_sized}
+use Rattle.capsule_grammar.specs.Reading.{capsule_of}
+use Rattle.capsule_grammar.specs.Rebuilt.{emptied}
+use Rattle.capsule_grammar.specs.Spelling.{spelling}
+use Rattle.capsule_tool.specs.Files.{verdict_answer, text_by, written}
+use Rattle.capsule_tool.specs.Shown.{shown_text}
 use Rattle.capsule_tool.specs.Findings.{Finding, bare}
 use Rattle.capsule_tool.specs.Commands.{command_of}
+use Rattle.capsule_tool.specs.Makes.{long_capsule, making_work, recipe_next}
 use Rattle.capsule_tool.specs.Plays.{board_next, script_work, script_next, inputs_work}
 use Rattle.cu_io.specs.Seen.{Seen}
 use Rattle.cu_io.specs.Streams.{SinkSeen, AppendsAll}
@@ -136,11 +146,10 @@ verdict_end (WholeCapsule n) = bare_end _ (omega arith) (omega arith) (omega ari
 verdict_end (Refused refusal) = bare_end _ (omega arith) (omega arith) (omega arith) (omega arith)
 verdict_end (Trailing at) = bare_end _ (omega arith) (omega arith) (omega arith) (omega arith)
 
-rebuilt_end : (verdict : Verdict) (bytes : List ℕ) → IsEnd (bare (rebuilt_by verdict bytes))
-rebuilt_end (WholeCapsule n) bytes = bare_end _ (omega arith) (omega arith) (omega arith)
-    (omega arith)
-rebuilt_end (Refused refusal) bytes = verdict_end (Refused refusal)
-rebuilt_end (Trailing at) bytes = verdict_end (Trailing at)
+text_end : (verdict : Verdict) (text : List ℕ) → IsEnd (bare (text_by verdict text))
+text_end (WholeCapsule n) text = bare_end _ (omega arith) (omega arith) (omega arith) (omega arith)
+text_end (Refused refusal) text = verdict_end (Refused refusal)
+text_end (Trailing at) text = verdict_end (Trailing at)
 
 input_ends : (board : BoardValue) (loaded : Named) (sum : ℕ) (name : List ℕ) (rest : Named → ℕ
     → Work) (bytes : List ℕ) (past thin : Bool)
@@ -194,50 +203,83 @@ board_end name script (Err fault) = bare_end _ (omega arith) (omega arith) (omeg
 board_end name script (Ok board) =
     one_end board name script (has_one_device board && not board.two_banks)
 
+load_ends : (loaded : Named) (sum : ℕ) (name : List ℕ) (rest : Named → ℕ → Work)
+    (bytes : List ℕ) (past : Bool)
+    → Ends IsEnd (rest (loaded ++ (name, bytes) ∷ []) (sum + length bytes))
+    → Ends IsEnd (cond past (Finds (bare (long name)))
+    (rest (loaded ++ (name, bytes) ∷ []) (sum + length bytes)))
+load_ends loaded sum name rest bytes true ends =
+    bare_end _ (omega arith) (omega arith) (omega arith) (omega arith)
+load_ends loaded sum name rest bytes false ends = ends
+
+made_end : (sized : Bool) (text : List ℕ) → IsEnd (bare (cond sized (written text) long_capsule))
+made_end true text = bare_end _ (omega arith) (omega arith) (omega arith) (omega arith)
+made_end false text = bare_end _ (omega arith) (omega arith) (omega arith) (omega arith)
+
+making_end : (recipe : RecipeValue) (loaded : Named) (sum : ℕ) (names : List (List ℕ))
+    → Ends IsEnd (making_work recipe loaded sum names)
+making_end recipe loaded sum [] =
+    made_end (is_sized (recipe_capsule (contents_of loaded) recipe))
+    (spelling (recipe_capsule (contents_of loaded) recipe))
+making_end recipe loaded sum (name ∷ names) = λ bytes.
+    load_ends loaded sum name (λ loaded' sum'. making_work recipe loaded' sum' names) bytes
+    (nat_lt MAX_NAMED_BYTES (sum + length bytes))
+    (making_end recipe (loaded ++ (name, bytes) ∷ []) (sum + length bytes) names)
+
+recipe_end : (said : Result RecipeValue (BadKind × List ℕ)) → Ends IsEnd (recipe_next said)
+recipe_end (Err fault) = bare_end _ (omega arith) (omega arith) (omega arith) (omega arith)
+recipe_end (Ok recipe) = making_end recipe [] 0 (recipe_names recipe)
+
 command_ends : (command : Command) (words : List (List ℕ))
     → Ends IsEnd (work_by (Some command) words)
 command_ends Check words = λ bytes. verdict_end (verdict_of bytes)
-command_ends Show words = bare_end _ (omega arith) (omega arith) (omega arith) (omega arith)
-command_ends Rebuild words = λ bytes. rebuilt_end (verdict_of bytes) bytes
-command_ends Make words = bare_end _ (omega arith) (omega arith) (omega arith) (omega arith)
+command_ends Show words = λ bytes. text_end (verdict_of bytes) (shown_text bytes)
+command_ends Rebuild words = λ bytes. text_end (verdict_of bytes)
+    (spelling (emptied (capsule_of bytes)))
+command_ends Make words = λ bytes. recipe_end (recipe_text bytes)
 command_ends Play words = λ bytes. board_end (word words 1) (word words 2) (board_text bytes)
 command_ends Load words = bare_end _ (omega arith) (omega arith) (omega arith) (omega arith)
 
--- only the sum of the inputs ends a work with 7, after more than its limit was taken; n bytes were
--- taken before
+-- a work ends with 7 after more than the limit of the sum was taken, or since the capsule that it
+-- makes would be too long
+abbrev IsPast : ℕ → Finding → Type 0
+IsPast n finding = (MAX_NAMED_BYTES + 1 ≤ n) ⊎ (finding ≡ bare long_capsule)
+
+-- n bytes were taken before
 abbrev Sums : ℕ → Work → Type 0
-Sums n (Finds finding) = code_of finding.answer.status ≡ 7 → MAX_NAMED_BYTES + 1 ≤ n
+Sums n (Finds finding) = code_of finding.answer.status ≡ 7 → IsPast n finding
 Sums n (Reads limit name next) = (bytes : List ℕ) → Sums (n + length bytes) (next bytes)
+
+past_at : (m n : ℕ) (finding finding' : Finding) → m ≡ n → finding ≡ finding' → IsPast n finding'
+    → IsPast m finding
+past_at m n finding finding' is same (inl high) = inl (omega (arith, is))
+past_at m n finding finding' is same (inr long) = inr (same ∙ long)
 
 sum_of : (n : ℕ) (named : Option Named) (readings : List (List ℕ)) (w : Work) (finding : Finding)
     → Comes named readings w (Finds finding) → Sums n w
-    → code_of finding.answer.status ≡ 7 → MAX_NAMED_BYTES + 1 ≤ n + sum_by length readings
+    → code_of finding.answer.status ≡ 7 → IsPast (n + sum_by length readings) finding
 sum_of n named [] (Finds it) finding comes sums is =
-    omega (
-      arith,
-      sums
-          (sym (ap (λ (f : Finding). code_of f.answer.status) (finds_same finding it comes)) ∙ is),
-    )
+    let same : finding ≡ it = finds_same finding it comes in
+    past_at _ n finding it (omega arith) same
+    (sums (sym (ap (λ (f : Finding). code_of f.answer.status) same) ∙ is))
 sum_of n named [] (Reads limit name next) finding comes sums is =
     absurd (finds_reads finding limit name next comes)
 sum_of n named (bytes ∷ rest) (Finds it) finding comes sums is = absurd comes
 sum_of n named (bytes ∷ rest) (Reads limit name next) finding (holds, short, comes) sums is =
-    omega (
-      arith,
-      sum_of (n + length bytes) named rest (next bytes) finding comes (sums bytes) is,
-      sum_by-cons length bytes rest,
-    )
+    past_at _ (n + length bytes + sum_by length rest) finding finding
+    (omega (arith, sum_by-cons length bytes rest)) refl
+    (sum_of (n + length bytes) named rest (next bytes) finding comes (sums bytes) is)
 
 verdict_sum : (n : ℕ) (verdict : Verdict) → Sums n (Finds (bare (verdict_answer verdict)))
 verdict_sum n (WholeCapsule m) = λ is. absurd (omega (arith, is))
 verdict_sum n (Refused refusal) = λ is. absurd (omega (arith, is))
 verdict_sum n (Trailing at) = λ is. absurd (omega (arith, is))
 
-rebuilt_sum : (n : ℕ) (verdict : Verdict) (bytes : List ℕ)
-    → Sums n (Finds (bare (rebuilt_by verdict bytes)))
-rebuilt_sum n (WholeCapsule m) bytes = λ is. absurd (omega (arith, is))
-rebuilt_sum n (Refused refusal) bytes = verdict_sum n (Refused refusal)
-rebuilt_sum n (Trailing at) bytes = verdict_sum n (Trailing at)
+text_sum : (n : ℕ) (verdict : Verdict) (text : List ℕ)
+    → Sums n (Finds (bare (text_by verdict text)))
+text_sum n (WholeCapsule m) text = λ is. absurd (omega (arith, is))
+text_sum n (Refused refusal) text = verdict_sum n (Refused refusal)
+text_sum n (Trailing at) text = verdict_sum n (Trailing at)
 
 input_sums : (n : ℕ) (board : BoardValue) (loaded : Named) (sum : ℕ) (name : List ℕ) (rest : Named
     → ℕ → Work) (bytes : List ℕ) (past thin : Bool)
@@ -247,7 +289,7 @@ input_sums : (n : ℕ) (board : BoardValue) (loaded : Named) (sum : ℕ) (name :
     (cond thin (rest (loaded ++ (name, bytes) ∷ []) (sum + length bytes))
     (Finds (bare (later name)))))
 input_sums n board loaded sum name rest bytes true thin low is sums =
-    λ seven. grind (arith, low, is)
+    λ seven. inl (grind (arith, low, is))
 input_sums n board loaded sum name rest bytes false true low is sums = sums
 input_sums n board loaded sum name rest bytes false false low is sums =
     λ seven. absurd (omega (arith, seven))
@@ -285,12 +327,44 @@ board_sum n name script (Err fault) = λ is. absurd (omega (arith, is))
 board_sum n name script (Ok board) =
     one_sum n board name script (has_one_device board && not board.two_banks)
 
+load_sums : (n : ℕ) (loaded : Named) (sum : ℕ) (name : List ℕ) (rest : Named → ℕ → Work)
+    (bytes : List ℕ) (past : Bool)
+    → sum ≤ n → nat_lt MAX_NAMED_BYTES (sum + length bytes) ≡ past
+    → Sums (n + length bytes) (rest (loaded ++ (name, bytes) ∷ []) (sum + length bytes))
+    → Sums (n + length bytes) (cond past (Finds (bare (long name)))
+    (rest (loaded ++ (name, bytes) ∷ []) (sum + length bytes)))
+load_sums n loaded sum name rest bytes true low is sums =
+    λ seven. inl (grind (arith, low, is))
+load_sums n loaded sum name rest bytes false low is sums = sums
+
+made_sum : (n : ℕ) (sized : Bool) (text : List ℕ)
+    → Sums n (Finds (bare (cond sized (written text) long_capsule)))
+made_sum n true text = λ is. absurd (omega (arith, is))
+made_sum n false text = λ is. inr refl
+
+making_sum : (n : ℕ) (recipe : RecipeValue) (loaded : Named) (sum : ℕ) (names : List (List ℕ))
+    → sum ≤ n → Sums n (making_work recipe loaded sum names)
+making_sum n recipe loaded sum [] low =
+    made_sum n (is_sized (recipe_capsule (contents_of loaded) recipe))
+    (spelling (recipe_capsule (contents_of loaded) recipe))
+making_sum n recipe loaded sum (name ∷ names) low = λ bytes.
+    load_sums n loaded sum name (λ loaded' sum'. making_work recipe loaded' sum' names) bytes
+    (nat_lt MAX_NAMED_BYTES (sum + length bytes)) low refl
+    (making_sum (n + length bytes) recipe (loaded ++ (name, bytes) ∷ []) (sum + length bytes) names
+    (omega (arith, low)))
+
+recipe_sum : (n : ℕ) (said : Result RecipeValue (BadKind × List ℕ)) → Sums n (recipe_next said)
+recipe_sum n (Err fault) = λ is. absurd (omega (arith, is))
+recipe_sum n (Ok recipe) = making_sum n recipe [] 0 (recipe_names recipe) (omega arith)
+
 command_sums : (command : Option Command) (words : List (List ℕ)) → Sums 0 (work_by command words)
 command_sums None words = λ is. absurd (omega (arith, is))
 command_sums (Some Check) words = λ bytes. verdict_sum (0 + length bytes) (verdict_of bytes)
-command_sums (Some Show) words = λ is. absurd (omega (arith, is))
-command_sums (Some Rebuild) words = λ bytes. rebuilt_sum (0 + length bytes) (verdict_of bytes) bytes
-command_sums (Some Make) words = λ is. absurd (omega (arith, is))
+command_sums (Some Show) words = λ bytes. text_sum (0 + length bytes) (verdict_of bytes)
+    (shown_text bytes)
+command_sums (Some Rebuild) words = λ bytes. text_sum (0 + length bytes) (verdict_of bytes)
+    (spelling (emptied (capsule_of bytes)))
+command_sums (Some Make) words = λ bytes. recipe_sum (0 + length bytes) (recipe_text bytes)
 command_sums (Some Play) words = λ bytes. board_sum (0 + length bytes) (word words 1) (word words 2)
     (board_text bytes)
 command_sums (Some Load) words = λ is. absurd (omega (arith, is))
@@ -348,13 +422,13 @@ not_decided named w m a finding k ends is not4 not7 =
 
 -- a status that tells neither a failed write nor want of memory is that of what was found, and it
 -- was written
-written : (answer : Answer) (status k : ℕ) (w w' : SinkSeen) → Writes answer status w w'
+written_as : (answer : Answer) (status k : ℕ) (w w' : SinkSeen) → Writes answer status w w'
     → status ≡ k → k ≢ 5 → k ≢ 6
     → (code_of answer.status ≡ k) × AppendsAll w w' answer.text
-written answer status k w w' (inl (same, appends)) is not5 not6 = (sym same ∙ is, appends)
-written answer status k w w' (inr (inl (same, rose, front))) is not5 not6 =
+written_as answer status k w w' (inl (same, appends)) is not5 not6 = (sym same ∙ is, appends)
+written_as answer status k w w' (inr (inl (same, rose, front))) is not5 not6 =
     absurd (not5 (sym is ∙ same))
-written answer status k w w' (inr (inr (same, front))) is not5 not6 = absurd (not6 (sym is ∙ same))
+written_as answer status k w w' (inr (inr (same, front))) is not5 not6 = absurd (not6 (sym is ∙ same))
 
 appends_as : (a b : Finding) (w w' : SinkSeen) → a ≡ b → AppendsAll w w' a.answer.text
     → AppendsAll w w' b.answer.text
@@ -393,11 +467,11 @@ pub judged_run : (named : Option Named) (w0 : Work) (b a : Seen) (finding : Find
     → Judges w0 named k finding.trace w w'
 judged_run named w0 b a finding status k w w' (inl (readings, comes, took)) writes is not4 not5 not6
     not7 =
-    let (code, appends) = written finding.answer status k w w' writes is not5 not6 in
+    let (code, appends) = written_as finding.answer status k w w' writes is not5 not6 in
     (finding, readings, comes, code, refl, appends)
 judged_run named w0 b a finding status k w w' (inr (work, m, comes, ends)) writes is not4 not5 not6
     not7 =
-    let (code, appends) = written finding.answer status k w w' writes is not5 not6 in
+    let (code, appends) = written_as finding.answer status k w w' writes is not5 not6 in
     absurd (not_decided named work m a finding k ends code not4 not7)
 
 usage_end : (command : Option Command) (finding : Finding) (w w' : SinkSeen)
@@ -412,12 +486,12 @@ pub usage_run : (named : Option Named) (words : List (List ℕ)) (b a : Seen) (f
     → MayFind named (work_of words) b a finding → Writes finding.answer status w w' → status ≡ 2
     → IsUsage (command_of words) w w'
 usage_run named words b a finding status w w' (inl (readings, comes, took)) writes is =
-    let (code, appends) = written finding.answer status 2 w w' writes is (omega arith)
+    let (code, appends) = written_as finding.answer status 2 w w' writes is (omega arith)
     (omega arith) in
     usage_end (command_of words) finding w w'
     (coming_end (command_of words) words named readings finding comes) code appends
 usage_run named words b a finding status w w' (inr (work, m, comes, ends)) writes is =
-    let (code, appends) = written finding.answer status 2 w w' writes is (omega arith)
+    let (code, appends) = written_as finding.answer status 2 w w' writes is (omega arith)
     (omega arith) in
     absurd (not_decided named work m a finding 2 ends code (omega arith) (omega arith))
 
@@ -464,12 +538,12 @@ pub unread_run : (named : Option Named) (words : List (List ℕ)) (b a : Seen) (
     → MayFind named (work_of words) b a finding → Writes finding.answer status w w' → status ≡ 4
     → IsUnread (work_of words) named b a w w'
 unread_run named words b a finding status w w' (inl (readings, comes, took)) writes is =
-    let (code, appends) = written finding.answer status 4 w w' writes is (omega arith)
+    let (code, appends) = written_as finding.answer status 4 w w' writes is (omega arith)
     (omega arith) in
     absurd (no_end (command_of words) finding 4
     (coming_end (command_of words) words named readings finding comes) code (inl refl))
 unread_run named words b a finding status w w' (inr (work, m, comes, ends)) writes is =
-    let (code, appends) = written finding.answer status 4 w w' writes is (omega arith)
+    let (code, appends) = written_as finding.answer status 4 w w' writes is (omega arith)
     (omega arith) in
     unread_end named (work_of words) work b m a finding w w' comes ends code appends
 
@@ -497,24 +571,31 @@ long_end named w0 (Reads limit name next) b m a finding w w' (readings, comes, t
       appends_as finding (bare (long name)) w w' decides appends,
     )
 
+long_sum : (b a : Seen) (readings : List (List ℕ)) (finding : Finding) (w w' : SinkSeen)
+    → RoseBy (sum_by length readings) b.taken a.taken → AppendsAll w w' finding.answer.text
+    → IsPast (0 + sum_by length readings) finding
+    → RoseBy (MAX_NAMED_BYTES + 1) b.taken a.taken ⊎ AppendsAll w w' long_capsule.text
+long_sum b a readings finding w w' taken appends (inl high) =
+    inl (rose_less (MAX_NAMED_BYTES + 1) (sum_by length readings) b.taken a.taken (omega arith)
+    taken)
+long_sum b a readings finding w w' taken appends (inr is) =
+    inr (appends_as finding (bare long_capsule) w w' is appends)
+
 pub long_run : (named : Option Named) (words : List (List ℕ)) (b a : Seen) (finding : Finding)
     (status : ℕ) (w w' : SinkSeen)
     → MayFind named (work_of words) b a finding → Writes finding.answer status w w' → status ≡ 7
     → IsLong (work_of words) named b a finding.trace w w'
 long_run named words b a finding status w w' (inl (readings, comes, took)) writes is =
-    let (code, appends) = written finding.answer status 7 w w' writes is (omega arith)
+    let (code, appends) = written_as finding.answer status 7 w w' writes is (omega arith)
     (omega arith) in
     inr (
       (finding, readings, comes, code, refl, appends),
-      rose_less (MAX_NAMED_BYTES + 1) (sum_by length readings) b.taken a.taken
-          (omega (
-            arith,
-            sum_of 0 named readings (work_of words) finding comes
-                (command_sums (command_of words) words) code,
-          )) took.taken,
+      long_sum b a readings finding w w' took.taken appends
+          (sum_of 0 named readings (work_of words) finding comes
+          (command_sums (command_of words) words) code),
     )
 long_run named words b a finding status w w' (inr (work, m, comes, ends)) writes is =
-    let (code, appends) = written finding.answer status 7 w w' writes is (omega arith)
+    let (code, appends) = written_as finding.answer status 7 w w' writes is (omega arith)
     (omega arith) in
     inl (long_end named (work_of words) work b m a finding w w' comes ends code appends)
 

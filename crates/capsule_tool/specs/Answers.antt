@@ -25,13 +25,20 @@ refused at name = record {
       ++ (decimal at ++ (codes " " ++ (name ++ codes "\n")));
 }
 
--- a board that is refused, for a kind of fault at a key
-abbrev pub faulty_board : List ℕ → List ℕ → Answer
-faulty_board kind key = record {
+-- a board or a recipe that is refused, for a kind of fault at a key
+abbrev pub faulty_file : List ℕ → List ℕ → List ℕ → Answer
+faulty_file what kind key = record {
   status = Faulty;
-  text = codes "board "
-      ++ (kind ++ (codes " " ++ (key ++ codes "\n")));
+  text = what ++ (codes " " ++ (kind ++ (codes " " ++ (key ++ codes "\n"))));
 }
+
+-- a board
+abbrev pub faulty_board : List ℕ → List ℕ → Answer
+faulty_board kind key = faulty_file (codes "board") kind key
+
+-- a recipe
+abbrev pub faulty_recipe : List ℕ → List ℕ → Answer
+faulty_recipe kind key = faulty_file (codes "recipe") kind key
 
 -- a script that is refused at a line, for a kind of fault
 abbrev pub faulty_script : ℕ → List ℕ → Answer

@@ -2,12 +2,15 @@ pub mod Answers
 pub mod Commands
 pub mod Files
 pub mod Findings
+pub mod Loads
+pub mod Makes
 pub mod Names
 pub mod Plays
 pub mod Readings
 pub mod Runs
 pub mod ScanStops
 pub mod Scans
+pub mod Shown
 pub mod Statuses
 pub mod Steps
 pub mod ThinCapsules

@@ -19,7 +19,8 @@ use Rattle.capsule_tool.specs.declared.limits.TheConstants.{MAX_TEXT_BYTES, MAX_
 use Rattle.capsule_tool.specs.declared.status.Status.TheVariants.{Done}
 use Rattle.capsule_tool.specs.Answers.{faulty_board, faulty_script, later, long}
 use Rattle.capsule_tool.specs.Findings.{Finding, bare}
-use Rattle.capsule_tool.specs.Names.{board_kind, script_kind}
+use Rattle.capsule_tool.specs.Loads.{Loading, loads_work}
+use Rattle.capsule_tool.specs.Names.{file_kind, script_kind}
 use Rattle.capsule_tool.specs.Works.{Work}
 use Rattle.capsule_tool.specs.Works.Work.{Finds, Reads}
 
@@ -46,15 +47,13 @@ input_next board loaded sum name rest bytes =
     else Finds (bare (later name))
 
 -- an input is read, and that is done
-abbrev pub input_work : BoardValue → Named → ℕ → List ℕ → (Named → ℕ → Work) → Work
+abbrev pub input_work : BoardValue → Loading
 input_work board loaded sum name rest = Reads MAX_CAPSULE_BYTES name
     (input_next board loaded sum name rest)
 
 -- the inputs of these names, one after the other
 abbrev pub inputs_work : BoardValue → List Event → Named → ℕ → List (List ℕ) → Work
-inputs_work board events loaded sum [] = Finds (played board events loaded)
-inputs_work board events loaded sum (name ∷ names) =
-    input_work board loaded sum name (λ loaded' sum'. inputs_work board events loaded' sum' names)
+inputs_work board events = loads_work (input_work board) (λ loaded. Finds (played board events loaded))
 
 -- the inputs that these events name
 abbrev pub events_work : BoardValue → List Event → Work
@@ -74,7 +73,7 @@ script_work board name = Reads MAX_TEXT_BYTES name
 -- what is done by what the board of this name says; plays of several devices, and of devices with
 -- two banks, are to be built
 abbrev pub board_next : List ℕ → List ℕ → Result BoardValue (BadKind × List ℕ) → Work
-board_next name script (Err fault) = Finds (bare (faulty_board (board_kind fault.0) fault.1))
+board_next name script (Err fault) = Finds (bare (faulty_board (file_kind fault.0) fault.1))
 board_next name script (Ok board) =
     if has_one_device board && not board.two_banks
     then script_work board script

@@ -8,6 +8,7 @@ use Rattle.cu_io.specs.Streams.{SinkSeen, AppendsAll, AppendsFront}
 use Rattle.reference_machine.specs.TraceValues.{EntryValue}
 use Rattle.capsule_tool.specs.Answers.{usage, unread, long}
 use Rattle.capsule_tool.specs.Findings.{Finding}
+use Rattle.capsule_tool.specs.Makes.{long_capsule}
 use Rattle.cu_io.specs.Seen.{Seen}
 use Rattle.capsule_tool.specs.Readings.{MayPassLimit}
 use Rattle.capsule_tool.specs.Statuses.{code_of}
@@ -63,13 +64,15 @@ IsLongOne work named before after out out' =
     × MayPassLimit named limit name × RoseBy (limit + 1) before.taken after.taken
     × AppendsAll out out' (long name).text
 
--- an input passes its limit; or inputs hold bytes by whose sum the work finds so, and more than the
--- sum's limit was taken
+-- an input passes its limit; or inputs hold bytes by which the work finds so: by their sum, and more
+-- than the sum's limit was taken, or by the capsule that would be made of them
 abbrev pub IsLong : Work → Option Named → Seen → Seen → List EntryValue → SinkSeen → SinkSeen
     → Type 0
 IsLong work named before after trace out out' =
     IsLongOne work named before after out out'
-    ⊎ (Judges work named 7 trace out out' × RoseBy (MAX_NAMED_BYTES + 1) before.taken after.taken)
+    ⊎ (Judges work named 7 trace out out'
+    × (RoseBy (MAX_NAMED_BYTES + 1) before.taken after.taken
+    ⊎ AppendsAll out out' long_capsule.text))
 
 -- one finding that the work may come to gave the text, the trace, the status and the names asked
 -- for, and only work that was done has a trace; or memory ran out before anything was found, and

@@ -2,9 +2,10 @@
 use Rattle.std.specs.Prelude.{ℕ, List, [], slice_index_or, Option, None, Some}
 use Rattle.cu_io.specs.Named.{Named}
 use Rattle.capsule_tool.specs.Answers.{usage, later}
-use Rattle.capsule_tool.specs.Files.{check_work, rebuild_work}
+use Rattle.capsule_tool.specs.Files.{check_work, rebuild_work, show_work}
 use Rattle.capsule_tool.specs.Findings.{Finding, bare}
 use Rattle.capsule_tool.specs.Commands.{command_of}
+use Rattle.capsule_tool.specs.Makes.{make_work}
 use Rattle.capsule_tool.specs.Plays.{play_work}
 use Rattle.capsule_tool.specs.Works.{Work, told_by}
 use Rattle.capsule_tool.specs.Works.Work.{Finds}
@@ -20,9 +21,9 @@ word words k = slice_index_or words k []
 abbrev pub work_by : Option Command → List (List ℕ) → Work
 work_by None words = Finds (bare usage)
 work_by (Some Check) words = check_work (word words 1)
-work_by (Some Show) words = Finds (bare (later (word words 0)))
+work_by (Some Show) words = show_work (word words 1)
 work_by (Some Rebuild) words = rebuild_work (word words 1)
-work_by (Some Make) words = Finds (bare (later (word words 0)))
+work_by (Some Make) words = make_work (word words 1)
 work_by (Some Play) words = play_work (word words 1) (word words 2)
 work_by (Some Load) words = Finds (bare (later (word words 0)))
 

@@ -1,6 +1,6 @@
 ghost use Rattle.std.specs.Prelude.{◌≡◌, IfOk};
-ghost use Rattle.capsule_tool.specs.Answers.{usage, done, refused, faulty_board, faulty_script};
-ghost use Rattle.capsule_tool.specs.Answers.{later, unread, long};
+ghost use Rattle.capsule_tool.specs.Answers.{usage, done, refused, faulty_board, faulty_recipe};
+ghost use Rattle.capsule_tool.specs.Answers.{faulty_script, later, unread, long};
 ghost use Rattle.capsule_tool.specs.Steps.{AnswersFault};
 
 use crate::status::Status;
@@ -54,6 +54,16 @@ impl Answer {
         ensures { IfOk result (λ answer. answer ≡ faulty_board kind.now key.now) }
     {
         match format!(in alloc; "board {kind} {key}\n") {
+            Ok(text) => Answer::new(alloc, Status::Faulty, text.as_str()),
+            Err(_) => Err(NoMemory),
+        }
+    }
+
+    /// The recipe is refused, for a kind of fault at a key.
+    pub fn faulty_recipe(alloc: Global, kind: &str, key: &str) -> Result<Answer, NoMemory>
+        ensures { IfOk result (λ answer. answer ≡ faulty_recipe kind.now key.now) }
+    {
+        match format!(in alloc; "recipe {kind} {key}\n") {
             Ok(text) => Answer::new(alloc, Status::Faulty, text.as_str()),
             Err(_) => Err(NoMemory),
         }

@@ -1,6 +1,6 @@
-//! `capsule_tool` checks and rebuilds UEFI capsule files, and plays a platform that takes them. Its
-//! words are `check FILE`, `rebuild FILE` and `play BOARD SCRIPT`; the other commands are still to
-//! be built, and answer so.
+//! `capsule_tool` checks, shows, rebuilds and makes UEFI capsule files, and plays a platform that
+//! takes them. Its words are `check FILE`, `show FILE`, `rebuild FILE`, `make RECIPE` and `play
+//! BOARD SCRIPT`; `load N` is still to be built, and answers so.
 //!
 //! `run` is the whole program over inputs and a sink: what it writes, its status and the trace of a
 //! play are a function of the words and of the bytes of the inputs, wherever nothing outside fails.
@@ -13,11 +13,13 @@ mod found;
 mod input;
 mod laws;
 mod limits;
+mod make;
 mod names;
 mod play;
 mod program;
 mod rebuild;
 mod scan;
+mod show;
 mod status;
 mod stop;
 #[cfg(test)]
@@ -26,7 +28,7 @@ mod verdict;
 
 use cu_base::{Names, NoMemory, Text};
 use cu_io::{FileInputs, StdSink};
-pub use laws::{limits_are_as_specified, thin_deliveries_are_capsules};
+pub use laws::{limits_are_as_specified, shown_text_is_the_text, thin_deliveries_are_capsules};
 pub use program::{Outcome, run};
 use status::Status;
 use std::alloc::Global;

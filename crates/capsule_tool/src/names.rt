@@ -1,7 +1,7 @@
 //! The names of the causes of refusals, as they are printed.
 ghost use Rattle.std.specs.Prelude.{◌≡◌};
 ghost use Rattle.capsule_tool.specs.Verdicts.{name_of};
-ghost use Rattle.capsule_tool.specs.Names.{board_kind, script_kind};
+ghost use Rattle.capsule_tool.specs.Names.{file_kind, script_kind};
 
 use capsule_grammar::Why;
 use recipe_files::BadKind;
@@ -24,9 +24,9 @@ pub fn why_name(why: Why) -> &'static str
     }
 }
 
-/// The name of a board's fault as it is printed.
-pub fn board_kind(kind: BadKind) -> &'static str
-    ensures { result.now ≡ board_kind kind }
+/// The name of the fault of a board or a recipe as it is printed.
+pub fn file_kind(kind: BadKind) -> &'static str
+    ensures { result.now ≡ file_kind kind }
 {
     match kind {
         BadKind::BadToml => "BadToml",

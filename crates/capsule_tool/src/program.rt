@@ -13,8 +13,10 @@ use crate::answer::Answer;
 use crate::check::check;
 use crate::command::{Command, command_of};
 use crate::found::Found;
+use crate::make::make;
 use crate::play::play;
 use crate::rebuild::rebuild;
+use crate::show::show;
 use crate::status::Status;
 use crate::stop::Stop;
 use cu_base::{NoMemory, Text};
@@ -50,11 +52,11 @@ fn work<I: Inputs>(alloc: Global, words: &[Text], inputs: &mut I) -> Result<Foun
     match command_of(words) {
         None => Err(Stop::Answered(Answer::usage(alloc)?)),
         Some(Command::Check) => check(alloc, &words[1], inputs),
+        Some(Command::Show) => show(alloc, &words[1], inputs),
         Some(Command::Rebuild) => rebuild(alloc, &words[1], inputs),
         Some(Command::Play) => play(alloc, &words[1], &words[2], inputs),
-        Some(Command::Show | Command::Make | Command::Load) => {
-            Err(Stop::Answered(Answer::later(alloc, words[0].as_str())?))
-        }
+        Some(Command::Make) => make(alloc, &words[1], inputs),
+        Some(Command::Load) => Err(Stop::Answered(Answer::later(alloc, words[0].as_str())?)),
     }
 }
 

@@ -1,9 +1,12 @@
 //! The command `rebuild`: the capsule of a file without its lead and its pads.
 ghost use Rattle.std.specs.Prelude.{◌≡◌, ◌≤◌, length, None, IfOk};
 ghost use Rattle.cu_io.specs.Seen.{Follows};
+ghost use Rattle.capsule_grammar.specs.Reading.{capsule_of};
+ghost use Rattle.capsule_grammar.specs.Rebuilt.{emptied};
 ghost use Rattle.capsule_grammar.specs.Refusals.{refusal};
+ghost use Rattle.capsule_grammar.specs.Spelling.{spelling};
 ghost use Rattle.fmp_headers.specs.CapsuleHeader.{image_size};
-ghost use Rattle.capsule_tool.specs.Files.{rebuild_work, rebuild_answer, rebuilt};
+ghost use Rattle.capsule_tool.specs.Files.{rebuild_work, rebuild_answer, written};
 ghost use Rattle.capsule_tool.specs.Steps.{StepsTo};
 ghost use Rattle.capsule_tool.specs.Works.Work.{Finds};
 
@@ -46,7 +49,8 @@ fn rebuild_bytes(alloc: Global, bytes: Blob) -> Result<Answer, NoMemory>
 fn rebuilt(alloc: Global, bytes: Blob) -> Result<Answer, NoMemory>
     requires accepted { refusal bytes ≡ None }
     requires whole { length bytes ≤ image_size bytes }
-    ensures { IfOk result (λ answer. answer ≡ rebuilt bytes) }
+    ensures { IfOk result
+        (λ answer. answer ≡ written (spelling (emptied (capsule_of bytes)))) }
 {
     let status = Status::Done;
     if is_rebuilt(bytes.as_slice()) {

@@ -1,4 +1,5 @@
 mod cut;
+mod making;
 mod plays;
 
 use super::*;
@@ -140,6 +141,18 @@ fn rebuild<'a>(name: &'a str, pieces: &'a [&'a [u8]], status: u8, text: &'a [u8]
         faults: CALM,
         status,
         text,
+    }
+}
+
+/// A text of `a.cap` where no call fails.
+fn show<'a>(name: &'a str, pieces: &'a [&'a [u8]], status: u8, text: &'a str) -> Case<'a> {
+    Case {
+        name,
+        words: &["show", "a.cap"],
+        pieces,
+        faults: CALM,
+        status,
+        text: text.as_bytes(),
     }
 }
 
@@ -314,6 +327,22 @@ fn rebuilds_without_a_lead_and_a_pad(rt: HostRuntime) -> Result<(), Fail> {
 }
 
 #[test]
+fn shows_the_capsule_of_a_file(rt: HostRuntime) -> Result<(), Fail> {
+    let other: [&[u8]; 2] = [&GUID, &REST];
+    let trailing: [&[u8]; 3] = [&GUID, &REST, &[0]];
+    let text = "capsule 11111111-2222-3333-4444-555555555555 flags 00010000 header 28 size 32\n\
+        ext 0\nother 4\n";
+    expect(&rt, &show("another GUID", &other, 0, text))?;
+    expect(
+        &rt,
+        &show("a byte behind", &trailing, 1, "refused 32 Trailing\n"),
+    )?;
+    expect(&rt, &show("empty", &[], 1, "refused 0 Short\n"))?;
+    expect(&rt, &words(&["show", "none"], 4, "unread none\n"))?;
+    Ok(())
+}
+
+#[test]
 fn answers_words(rt: HostRuntime) -> Result<(), Fail> {
     let usage =
         "usage: check FILE | show FILE | rebuild FILE | make RECIPE | play BOARD SCRIPT | load N\n";
@@ -325,8 +354,7 @@ fn answers_words(rt: HostRuntime) -> Result<(), Fail> {
     expect(&rt, &words(&["load", "1001"], 2, usage))?;
     expect(&rt, &words(&["load", "01"], 2, usage))?;
     expect(&rt, &words(&["load", "+1"], 2, usage))?;
-    expect(&rt, &words(&["show", "a.cap"], 8, "later show\n"))?;
-    expect(&rt, &words(&["make", "a.toml"], 8, "later make\n"))?;
+    expect(&rt, &words(&["make", "none"], 4, "unread none\n"))?;
     expect(&rt, &words(&["load", "1"], 8, "later load\n"))?;
     expect(&rt, &words(&["load", "1000"], 8, "later load\n"))?;
     expect(&rt, &words(&["check", "none"], 4, "unread none\n"))?;

@@ -4,7 +4,6 @@ use Rattle.std.proofs.Common.{ap, subst, ◌∙◌, arith}
 use Rattle.std.proofs.lemmas.List.{drop-take}
 use Rattle.cu_base.specs.Fields.{field}
 use Rattle.cu_base.proofs.Fields.{length-field}
-use Rattle.bench_model.specs.Bench.{BenchValue}
 use Rattle.bench_model.specs.Regions.{Region, AgreesOutside}
 use Rattle.bench_model.specs.declared.outside_limits.TheConstants.{SLOT_LEAD}
 use Rattle.bench_model.proofs.ImageLemmas.{agrees_back}
@@ -12,7 +11,6 @@ use Rattle.fmp_slot.specs.declared.limits.TheConstants.{MAX_KEPT_SECTION}
 use Rattle.fmp_slot.specs.declared.slot.SlotHead.{SlotHead}
 use Rattle.fmp_slot.specs.Held.{held}
 use Rattle.fmp_slot.specs.Layout.{IsSlotHead, front_bytes}
-use Rattle.fmp_slot.specs.Spending.{ChangesSlot}
 use Rattle.fmp_slot.specs.Writing.{HasFront, IsReceived, payload_so_far}
 use Rattle.fmp_slot.proofs.Received.{wider}
 
@@ -52,19 +50,3 @@ received_by_front h dep front taken old new widths dep_length section whole room
       section = section;
       widths = widths;
     }
-
--- what changes one region, and then the same, changes it alone
-pub changes_then : (region : ℕ) (old mid new : BenchValue) → ChangesSlot region old mid
-    → ChangesSlot region mid new → ChangesSlot region old new
-changes_then region old mid new a b = record {
-  others = record {
-    told = b.others.told ∙ a.others.told;
-    regions = b.others.regions ∙ a.others.regions;
-    bytes = λ k other. b.others.bytes k other ∙ a.others.bytes k other;
-    dirty = λ k other. b.others.dirty k other ∙ a.others.dirty k other;
-    rest = b.others.rest ∙ a.others.rest;
-    spare = b.others.spare ∙ a.others.spare;
-    orders = b.others.orders ∙ a.others.orders;
-  };
-  long = b.long ∙ a.long;
-}

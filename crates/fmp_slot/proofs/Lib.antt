@@ -1,4 +1,5 @@
 mod Fronts
+pub mod Joins
 mod Looks
 mod Payloads
 mod Received

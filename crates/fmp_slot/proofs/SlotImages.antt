@@ -50,22 +50,6 @@ untold_apart true at k wrote read bytes long wrote_is read_is other =
 
 -- ---- images
 
--- what was kept of what was kept is kept
-pub kept_before : (old mid : Region) (image : List ℕ) → KeepsSlots slot_of old mid
-    → IsKept slot_of mid image → IsKept slot_of old image
-kept_before old mid image keeps (inl none) = inl none
-kept_before old mid image keeps (inr h) =
-    elim (keeps.each h.image h.is) [
-      | inl none ↦ inl (sym h.same ∙ none)
-      | inr before ↦ inr (record
-          { image = before.image; is = before.is; same = before.same ∙ h.same })
-    ]
-
-pub keeps_then : (old mid new : Region) → KeepsSlots slot_of old mid → KeepsSlots slot_of mid new
-    → KeepsSlots slot_of old new
-keeps_then old mid new first second =
-    record { each = λ image is. kept_before old mid image first (second.each image is) }
-
 pub keeps_all : (region : Region) → KeepsSlots slot_of region region
 keeps_all region =
     record { each = λ image is. inr (record { image = image; is = is; same = refl }) }
@@ -74,19 +58,6 @@ pub keeps_then_sync : (old mid new : Region) → KeepsSlots slot_of old mid → 
     → KeepsSlots slot_of old new
 keeps_then_sync old mid new keeps syncs =
     record { each = λ image is. keeps.each image (image_of_sync mid new image syncs is) }
-
-pub keeps_then_seals : (s : HeldSlot) (old mid new : Region) → KeepsSlots slot_of old mid
-    → KeepsOrSeals slot_of s mid new → KeepsOrSeals slot_of s old new
-keeps_then_seals s old mid new keeps seals = record {
-  each = λ image is. elim (seals.each image is) [
-    | inl kept ↦ inl (kept_before old mid image keeps kept)
-    | inr sealed ↦ inr sealed
-  ];
-}
-
-pub seals_by_keeping : (s : HeldSlot) (old new : Region) → KeepsSlots slot_of old new
-    → KeepsOrSeals slot_of s old new
-seals_by_keeping s old new keeps = record { each = λ image is. inl (keeps.each image is) }
 
 -- ---- unsealing
 

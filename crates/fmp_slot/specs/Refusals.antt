@@ -7,6 +7,7 @@ use Rattle.fmp_slot.specs.declared.faults.SlotFault.{SlotFault}
 use Rattle.fmp_slot.specs.declared.faults.SlotFault.TheVariants.{Flash, TooLarge, Apart}
 use Rattle.fmp_slot.specs.Held.{HeldSlot}
 use Rattle.fmp_slot.specs.Layout.{front_bytes}
+use Rattle.fmp_slot.specs.Writing.{Places}
 
 -- the call answers no other refusal than Flash
 abbrev pub FailsAlone : {T : Type 0} → Result T SlotFault → Type 0
@@ -41,6 +42,16 @@ ReadsBack told from bytes (Ok x) = Unit {0}
 ReadsBack told from bytes (Err Flash) = Unit {0}
 ReadsBack told from bytes (Err TooLarge) = ⊥
 ReadsBack told from bytes (Err (Apart at wrote read)) = IsApart told from bytes at wrote read
+
+-- Apart comes only with a byte of the front or of the payload, where a writer with these places
+-- writes it, that was read as another
+abbrev pub FinishesAt : {T : Type 0} → Bool → Places → List ℕ → Result T SlotFault → Type 0
+FinishesAt told p payload (Ok x) = Unit {0}
+FinishesAt told p payload (Err Flash) = Unit {0}
+FinishesAt told p payload (Err TooLarge) = ⊥
+FinishesAt told p payload (Err (Apart at wrote read)) =
+    IsApart told p.front_at p.front at wrote read
+    ⊎ IsApart told p.payload_at payload at wrote read
 
 -- TooLarge comes exactly where the payload is longer than the capacity, and Apart only with a byte
 -- of the front or of the payload that was read as another

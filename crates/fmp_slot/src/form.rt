@@ -6,7 +6,7 @@ ghost use Rattle.fmp_slot.specs.Held.{HeldSlot, held, shown, region_in, HasSlot,
 ghost use Rattle.fmp_slot.specs.Held.{IsToldStable, IsWithinLimits, KeepsSlots, KeepsOrSeals};
 ghost use Rattle.fmp_slot.specs.Held.{IsDurable, IsHeldDep};
 ghost use Rattle.fmp_slot.specs.Refusals.{FailsAlone, StartsWithin, ReadsBack};
-ghost use Rattle.fmp_slot.specs.Spending.{SpendsUpTo, ChangesDevice, SlotCause};
+ghost use Rattle.fmp_slot.specs.Spending.{Spends, SpendsUpTo, ChangesDevice, SlotCause};
 ghost use Rattle.fmp_slot.specs.Writing.{Writing, Places, IsNextPiece, started, more_taken};
 
 use crate::{MAX_KEPT_SECTION, Slot, SlotFault, SlotHead};
@@ -15,6 +15,8 @@ use bench_model::{Flash, MAX_CAPACITY};
 /// How the region of a device holds its slot. A call takes no memory, and of the bench it changes
 /// the region of its device alone, beside counts and the plan of faults.
 pub trait SlotForm {
+    ghost use Rattle.fmp_slot.specs.declared.slot.SlotHead.{SlotHead};
+
     /// A slot that is being written.
     type Writer: Drop;
 
@@ -29,6 +31,9 @@ pub trait SlotForm {
 
     /// Where a writer writes.
     ghost places: { Self.Writer → Places };
+
+    /// Where a writer of a head and a section may write, in a region of so many bytes.
+    ghost may_write: { ℕ → SlotHead → List ℕ → Places → Type 0 };
 
     /// The payload so far, as the bytes of the region hold it.
     ghost taken: { Self.Writer → List ℕ → List ℕ };
@@ -91,6 +96,8 @@ pub trait SlotForm {
         requires limit { head.now.dep_length ≤ MAX_KEPT_SECTION }
         ensures ok { IfOk result (λ w. writing w ≡ started device head.now dep.now) }
         ensures underway { IfOk result (λ w. underway w (region_in device (F.state flash.new))) }
+        ensures places { IfOk result (λ w. may_write
+            (length (region_in device (F.state flash.old)).bytes) head.now dep.now (places w)) }
         ensures taken { IfOk result (λ w. taken w (region_in device (F.state flash.new)).bytes ≡ []) }
         ensures images { KeepsSlots slot_of (region_in device (F.state flash.old))
             (region_in device (F.state flash.new)) }
@@ -124,6 +131,7 @@ pub trait SlotForm {
             → taken writer.new (region_in (writing writer.old).device (F.state flash.new)).bytes
             ≡ taken writer.old (region_in (writing writer.old).device (F.state flash.old)).bytes
             ++ bytes.now) }
+        ensures places { places writer.new ≡ places writer.old }
         ensures err { OnErr result (writing writer.new ≡ writing writer.old) }
         ensures images { KeepsSlots slot_of
             (region_in (writing writer.old).device (F.state flash.old))
@@ -132,7 +140,7 @@ pub trait SlotForm {
             ((places writer.old).payload_at + (writing writer.old).taken) bytes.now result }
         ensures frame { ChangesDevice (writing writer.old).device (F.state flash.old)
             (F.state flash.new) }
-        ensures counts { SpendsUpTo 1 1 result (F.state flash.old) (F.state flash.new) }
+        ensures counts { Spends 1 1 result (F.state flash.old) (F.state flash.new) }
         ensures cause { SlotCause (F.state flash.old) (F.state flash.new) result };
 
     /// Writes head and section, makes all last, reads them back, and seals the slot. Apart only
@@ -157,7 +165,7 @@ pub trait SlotForm {
             (places writer).front result }
         ensures frame { ChangesDevice (writing writer).device (F.state flash.old)
             (F.state flash.new) }
-        ensures counts { SpendsUpTo 4 1 result (F.state flash.old) (F.state flash.new) }
+        ensures counts { Spends 4 1 result (F.state flash.old) (F.state flash.new) }
         ensures cause { SlotCause (F.state flash.old) (F.state flash.new) result };
 
     /// A region for a payload of a byte or more is longer than one for none.

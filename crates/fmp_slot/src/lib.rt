@@ -14,9 +14,9 @@ mod layout;
 mod limits;
 mod moves;
 mod one_bank;
-mod pieces;
 mod slot;
 mod steps;
+mod whole;
 mod writer;
 
 pub use faults::SlotFault;
@@ -24,4 +24,5 @@ pub use form::SlotForm;
 pub use limits::{MAX_KEPT_SECTION, PIECE};
 pub use one_bank::{OneBank, look, set_image};
 pub use slot::{Slot, SlotHead};
+pub use whole::finish;
 pub use writer::SlotWriter;

@@ -3,16 +3,16 @@
 ghost use Rattle.std.specs.Prelude.{◌≡◌, ◌+◌, ◌-◌, ◌≤◌, true, length, OnOk, IfOk, IsErrOf};
 ghost use Rattle.bench_model.specs.Bench.{ChangesCounts};
 ghost use Rattle.fmp_slot.specs.Held.{HasSlot, IsBegun, IsToldStable, KeepsOrSeals, IsDurable};
-ghost use Rattle.fmp_slot.specs.Held.{IsHeldDep, IsWithinLimits, held, shown, region_in};
+ghost use Rattle.fmp_slot.specs.Held.{IsWithinLimits, held, shown, region_in};
 ghost use Rattle.fmp_slot.specs.Layout.{slot_of, region_bytes};
 ghost use Rattle.fmp_slot.specs.Refusals.{FailsAlone, SetsWithin};
 ghost use Rattle.fmp_slot.specs.Spending.{Spends, ChangesDevice, SlotCause};
 ghost use Rattle.fmp_slot.specs.Writing.{pieces_of};
 
-use crate::layout::{DEP_AT, HEAD_BYTES, SEAL_AT, shown};
-use crate::pieces::put_pieces;
-use crate::steps::FIRST_DEVICE;
-use crate::{MAX_KEPT_SECTION, Slot, SlotFault, SlotForm, SlotHead, SlotWriter};
+use crate::layout::{DEP_AT, FRONT_AT, HEAD_BYTES, SEAL_AT, front, shown};
+use crate::moves::{put, put_front, put_seal, read_back};
+use crate::steps::{FIRST_DEVICE, widths};
+use crate::{MAX_KEPT_SECTION, Slot, SlotFault, SlotForm, SlotHead, SlotWriter, finish};
 use bench_model::{Flash, SLOT_LEAD};
 
 /// The form of a device with one bank: its region has the head of the slot and its dependency
@@ -25,7 +25,7 @@ impl SlotForm for OneBank {
     ghost use Rattle.bench_model.specs.declared.outside_limits.TheConstants.{SLOT_LEAD};
     ghost use Rattle.fmp_slot.specs.Layout.{region_bytes};
     ghost use Rattle.fmp_slot.specs.Layout as layout;
-    ghost use Rattle.fmp_slot.specs.Writers.{writing_of, is_underway, places_of};
+    ghost use Rattle.fmp_slot.specs.Writers.{writing_of, is_underway, places_of, writes_at};
     ghost use Rattle.fmp_slot.specs.Writing.{payload_so_far};
 
     type Writer = SlotWriter;
@@ -37,6 +37,8 @@ impl SlotForm for OneBank {
     ghost writing = { writing_of };
 
     ghost places = { places_of };
+
+    ghost may_write = { writes_at };
 
     ghost taken = { λ w bytes. payload_so_far w.taken bytes };
 
@@ -57,7 +59,8 @@ impl SlotForm for OneBank {
         head: &SlotHead,
         out: &mut [u8],
     ) -> Result<(), SlotFault> {
-        read_dep(flash, device, head, out)
+        flash.read(device as u32 + FIRST_DEVICE, DEP_AT, out)?;
+        Ok(())
     }
 
     fn start<F: Flash>(
@@ -76,11 +79,23 @@ impl SlotForm for OneBank {
         writer: &mut SlotWriter,
         bytes: &[u8],
     ) -> Result<(), SlotFault> {
-        writer.piece(flash, bytes)
+        let region = writer.device as u32 + FIRST_DEVICE;
+        let _size = flash.size(region);
+        let at = SLOT_LEAD + writer.taken;
+        put(flash, region, at, bytes)?;
+        read_back(flash, region, at, bytes)?;
+        writer.taken += bytes.len() as u32;
+        Ok(())
     }
 
     fn seal<F: Flash>(&self, flash: &mut F, writer: SlotWriter) -> Result<(), SlotFault> {
-        writer.seal(flash)
+        let region = writer.device as u32 + FIRST_DEVICE;
+        let _size = flash.size(region);
+        widths(&writer.head);
+        let end = (DEP_AT + writer.head.dep_length) as usize;
+        let front = front(&writer.head, &writer.dep[..writer.head.dep_length as usize]);
+        put_front(flash, region, &front[FRONT_AT as usize..end])?;
+        put_seal(flash, region)
     }
 
     ghost grows = { λ capacity some. add-le-add (le-add_left SLOT_LEAD 0) some };
@@ -104,29 +119,6 @@ pub fn look<F: Flash>(flash: &mut F, device: u8) -> Result<Slot, SlotFault>
     let mut head = [0; HEAD_BYTES];
     flash.read(region, SEAL_AT, &mut head)?;
     Ok(shown(room, &head))
-}
-
-/// The dependency section that a sealed slot keeps: one look.
-fn read_dep<F: Flash>(
-    flash: &mut F,
-    device: u8,
-    head: &SlotHead,
-    out: &mut [u8],
-) -> Result<(), SlotFault>
-    requires there { HasSlot (region_bytes 0) device (F.state flash.old) }
-    requires looked { (region_in device (F.state flash.old)).told ≡ true
-        → shown (slot_of (region_in device (F.state flash.old)).bytes) ≡ Slot.Sealed head.now }
-    requires section { length out.old ≡ head.now.dep_length }
-    requires limit { head.now.dep_length ≤ MAX_KEPT_SECTION }
-    ensures value { OnOk result ((region_in device (F.state flash.old)).told ≡ true
-        → IsHeldDep out.new (slot_of (region_in device (F.state flash.old)).bytes)) }
-    ensures refused { FailsAlone result }
-    ensures frame { ChangesCounts (F.state flash.old) (F.state flash.new) }
-    ensures counts { Spends 0 1 result (F.state flash.old) (F.state flash.new) }
-    ensures cause { SlotCause (F.state flash.old) (F.state flash.new) result }
-{
-    flash.read(device as u32 + FIRST_DEVICE, DEP_AT, out)?;
-    Ok(())
 }
 
 /// Writes the slot of a device with one bank: it is made unsealed, the payload is written in pieces
@@ -163,8 +155,6 @@ pub fn set_image<F: Flash>(
         result (F.state flash.old) (F.state flash.new) }
     ensures cause { SlotCause (F.state flash.old) (F.state flash.new) result }
 {
-    let mut writer = SlotWriter::start(flash, device, head, dep)?;
-    put_pieces(flash, &mut writer, payload)?;
-    writer.seal(flash)?;
-    Ok(())
+    let writer = SlotWriter::start(flash, device, head, dep)?;
+    finish(&OneBank, flash, writer, payload)
 }

@@ -16,6 +16,11 @@ pub fn large_device(alloc: Global) -> Result<Board, Stop> {
     board(alloc, 1, 67_108_864)
 }
 
+/// A board of one small device, whose banks have 1 MiB.
+pub fn large_bank(alloc: Global) -> Result<Board, Stop> {
+    board_of(alloc, 1_048_576, 1, 64)
+}
+
 /// A bench in memory that is this board as it leaves the factory.
 pub fn laid_out(alloc: Global, board: &Board) -> Result<MemBench, Stop> {
     let mut bench = MemBench::new(alloc);
@@ -23,9 +28,14 @@ pub fn laid_out(alloc: Global, board: &Board) -> Result<MemBench, Stop> {
     Ok(bench)
 }
 
-/// A board of so many devices of this capacity.
+/// A board of so many devices of this capacity, and of the least banks.
 fn board(alloc: Global, devices: u32, capacity: u32) -> Result<Board, Stop> {
-    let Ok(text) = text(alloc, devices, capacity) else {
+    board_of(alloc, 65_536, devices, capacity)
+}
+
+/// A board of these banks and of so many devices of this capacity.
+fn board_of(alloc: Global, bank: u32, devices: u32, capacity: u32) -> Result<Board, Stop> {
+    let Ok(text) = text(alloc, bank, devices, capacity) else {
         return Err(Stop::Memory);
     };
     match read_board(alloc, text.as_bytes()) {
@@ -35,9 +45,8 @@ fn board(alloc: Global, devices: u32, capacity: u32) -> Result<Board, Stop> {
 }
 
 /// The text of that board.
-fn text(alloc: Global, devices: u32, capacity: u32) -> Result<String, AllocError> {
-    let mut text = String::new(alloc);
-    text.push_str("bank = 65536\nresult_max = 15\ndigests = []\n")?;
+fn text(alloc: Global, bank: u32, devices: u32, capacity: u32) -> Result<String, AllocError> {
+    let mut text = format!(in alloc; "bank = {bank}\nresult_max = 15\ndigests = []\n")?;
     for number in 0..devices {
         let head = format!(in alloc; "[[device]]\nname = \"d{number}\"\nindex = {number}\n")?;
         text.push_str(head.as_str())?;

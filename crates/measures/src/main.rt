@@ -5,6 +5,8 @@
 
 mod boards;
 mod image;
+mod lists;
+mod opens;
 mod pieces;
 mod slot;
 mod small;
@@ -19,15 +21,32 @@ use stop::Stop;
 
 /// The words, each with what it does: a board of 16 devices with 512 MiB in sum is laid out; an
 /// image of 64 MiB is written in pieces, synced and read back; small writes with syncs go all over
-/// that board; an image of 64 MiB is set as the slot of a device.
-const WORDS: [&str; 4] = ["layout", "image", "small", "slot"];
+/// that board; an image of 64 MiB is set as the slot of a device; a scatter list of 65,536
+/// descriptors in 256 segments is walked; a list of one block of 64 MiB is laid; it is laid and
+/// joined; a full bank of variables is opened 20 times; that bank is read as often.
+const WORDS: [&str; 9] = [
+    "layout",
+    "image",
+    "small",
+    "slot",
+    "walk",
+    "list",
+    "join",
+    "log",
+    "log_reads",
+];
 
 fn main(rt: HostRuntime) -> ExitCode {
     let done = match words_of(&rt) {
         Some(0) => layout(rt.alloc()),
         Some(1) => image::measure(rt.alloc()),
         Some(2) => small::measure(rt.alloc()),
-        Some(_) => slot::measure(rt.alloc()),
+        Some(3) => slot::measure(rt.alloc()),
+        Some(4) => lists::measure_walk(rt.alloc()),
+        Some(5) => lists::measure_list(rt.alloc()),
+        Some(6) => lists::measure_join(rt.alloc()),
+        Some(7) => opens::measure(rt.alloc()),
+        Some(_) => opens::measure_reads(rt.alloc()),
         None => tell_words(&rt),
     };
     match done {

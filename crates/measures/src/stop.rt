@@ -1,5 +1,7 @@
+use bench_model::LayFault;
 use cu_base::{Failed, NoMemory};
 use fmp_slot::SlotFault;
+use scatter_list::CoalesceFault;
 use std::convert::From;
 use thiserror::Error;
 
@@ -30,6 +32,18 @@ impl From<Failed> for Stop {
 
 impl From<SlotFault> for Stop {
     fn from(_: SlotFault) -> Stop {
+        Stop::Failed
+    }
+}
+
+impl From<LayFault> for Stop {
+    fn from(_: LayFault) -> Stop {
+        Stop::Failed
+    }
+}
+
+impl From<CoalesceFault> for Stop {
+    fn from(_: CoalesceFault) -> Stop {
         Stop::Failed
     }
 }

@@ -1,9 +1,7 @@
-ghost use Rattle.std.specs.Prelude.{◌≡◌, ◌≤◌, IsTrue};
-ghost use Rattle.cu_base.specs.Causes.{Rose};
+ghost use Rattle.std.specs.Prelude.{◌≡◌};
 ghost use Rattle.bench_model.specs.Bench.{next_count};
-ghost use Rattle.bench_model.specs.Plans.{no_plan, after_call, is_off, is_struck, has_no_power};
-ghost use Rattle.bench_model.specs.Plans.{strike_of};
-ghost use Rattle.mem_bench.specs.Parts.{faults_after};
+ghost use Rattle.bench_model.specs.Plans.{no_plan};
+ghost use Rattle.mem_bench.specs.Parts.{HasStrike, IsStruckBy, faults_after};
 
 use bench_model::{Call, Counts, Plan, Strike};
 
@@ -35,17 +33,12 @@ impl Clerk {
 
     /// Counts a move of the flash, and tells what strikes it.
     pub fn count_move(&mut self) -> Strike
-        ensures value { result ≡ strike_of Call.Step self.old.plan }
-        ensures off { IsTrue (is_off self.old.plan) → IsTrue (is_struck result)
-            × IsTrue (has_no_power result) }
-        ensures plan { self.new.plan ≡ after_call Call.Step self.old.plan }
+        ensures value { IsStruckBy Call.Step result self.old.plan self.new.plan }
         ensures counts { self.new.counts ≡ record self.old.counts {
           moves = next_count self.old.counts.moves;
           flash_faults = faults_after result self.old.counts.flash_faults;
         } }
-        ensures later { self.old.counts.flash_faults ≤ self.new.counts.flash_faults }
-        ensures rose { IsTrue (is_struck result)
-            → Rose self.old.counts.flash_faults self.new.counts.flash_faults }
+        ensures cause { HasStrike result self.old.counts.flash_faults self.new.counts.flash_faults }
     {
         self.counts.moves = self.counts.moves.saturating_add(1);
         self.count_flash(Call::Step)
@@ -53,17 +46,12 @@ impl Clerk {
 
     /// Counts a look at the flash, and tells what strikes it.
     pub fn count_look(&mut self) -> Strike
-        ensures value { result ≡ strike_of Call.Look self.old.plan }
-        ensures off { IsTrue (is_off self.old.plan) → IsTrue (is_struck result)
-            × IsTrue (has_no_power result) }
-        ensures plan { self.new.plan ≡ after_call Call.Look self.old.plan }
+        ensures value { IsStruckBy Call.Look result self.old.plan self.new.plan }
         ensures counts { self.new.counts ≡ record self.old.counts {
           looks = next_count self.old.counts.looks;
           flash_faults = faults_after result self.old.counts.flash_faults;
         } }
-        ensures later { self.old.counts.flash_faults ≤ self.new.counts.flash_faults }
-        ensures rose { IsTrue (is_struck result)
-            → Rose self.old.counts.flash_faults self.new.counts.flash_faults }
+        ensures cause { HasStrike result self.old.counts.flash_faults self.new.counts.flash_faults }
     {
         self.counts.looks = self.counts.looks.saturating_add(1);
         self.count_flash(Call::Look)
@@ -71,17 +59,12 @@ impl Clerk {
 
     /// Counts a look at the folder, and tells what strikes it.
     pub fn count_folder_look(&mut self) -> Strike
-        ensures value { result ≡ strike_of Call.Look self.old.plan }
-        ensures off { IsTrue (is_off self.old.plan) → IsTrue (is_struck result)
-            × IsTrue (has_no_power result) }
-        ensures plan { self.new.plan ≡ after_call Call.Look self.old.plan }
+        ensures value { IsStruckBy Call.Look result self.old.plan self.new.plan }
         ensures counts { self.new.counts ≡ record self.old.counts {
           looks = next_count self.old.counts.looks;
           volume_faults = faults_after result self.old.counts.volume_faults;
         } }
-        ensures later { self.old.counts.volume_faults ≤ self.new.counts.volume_faults }
-        ensures rose { IsTrue (is_struck result)
-            → Rose self.old.counts.volume_faults self.new.counts.volume_faults }
+        ensures cause { HasStrike result self.old.counts.volume_faults self.new.counts.volume_faults }
     {
         self.counts.looks = self.counts.looks.saturating_add(1);
         self.count_volume(Call::Look)
@@ -89,30 +72,20 @@ impl Clerk {
 
     /// Counts a change of the folder, and tells what strikes it.
     pub fn count_folder_change(&mut self) -> Strike
-        ensures value { result ≡ strike_of Call.Step self.old.plan }
-        ensures off { IsTrue (is_off self.old.plan) → IsTrue (is_struck result)
-            × IsTrue (has_no_power result) }
-        ensures plan { self.new.plan ≡ after_call Call.Step self.old.plan }
+        ensures value { IsStruckBy Call.Step result self.old.plan self.new.plan }
         ensures counts { self.new.counts ≡ record self.old.counts
             { volume_faults = faults_after result self.old.counts.volume_faults } }
-        ensures later { self.old.counts.volume_faults ≤ self.new.counts.volume_faults }
-        ensures rose { IsTrue (is_struck result)
-            → Rose self.old.counts.volume_faults self.new.counts.volume_faults }
+        ensures cause { HasStrike result self.old.counts.volume_faults self.new.counts.volume_faults }
     {
         self.count_volume(Call::Step)
     }
 
     /// Lets the plan count a call of the flash, and counts its fault.
     fn count_flash(&mut self, call: Call) -> Strike
-        ensures value { result ≡ strike_of call self.old.plan }
-        ensures off { IsTrue (is_off self.old.plan) → IsTrue (is_struck result)
-            × IsTrue (has_no_power result) }
-        ensures plan { self.new.plan ≡ after_call call self.old.plan }
+        ensures value { IsStruckBy call result self.old.plan self.new.plan }
         ensures counts { self.new.counts ≡ record self.old.counts
             { flash_faults = faults_after result self.old.counts.flash_faults } }
-        ensures later { self.old.counts.flash_faults ≤ self.new.counts.flash_faults }
-        ensures rose { IsTrue (is_struck result)
-            → Rose self.old.counts.flash_faults self.new.counts.flash_faults }
+        ensures cause { HasStrike result self.old.counts.flash_faults self.new.counts.flash_faults }
     {
         let strike = self.plan.count(call);
         if strike.is_struck() {
@@ -123,15 +96,10 @@ impl Clerk {
 
     /// Lets the plan count a call of the volume, and counts its fault.
     fn count_volume(&mut self, call: Call) -> Strike
-        ensures value { result ≡ strike_of call self.old.plan }
-        ensures off { IsTrue (is_off self.old.plan) → IsTrue (is_struck result)
-            × IsTrue (has_no_power result) }
-        ensures plan { self.new.plan ≡ after_call call self.old.plan }
+        ensures value { IsStruckBy call result self.old.plan self.new.plan }
         ensures counts { self.new.counts ≡ record self.old.counts
             { volume_faults = faults_after result self.old.counts.volume_faults } }
-        ensures later { self.old.counts.volume_faults ≤ self.new.counts.volume_faults }
-        ensures rose { IsTrue (is_struck result)
-            → Rose self.old.counts.volume_faults self.new.counts.volume_faults }
+        ensures cause { HasStrike result self.old.counts.volume_faults self.new.counts.volume_faults }
     {
         let strike = self.plan.count(call);
         if strike.is_struck() {

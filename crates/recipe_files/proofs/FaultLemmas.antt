@@ -118,19 +118,24 @@ pub fault_from-here : (test : Data → Option Fault) (vs : List Value) (i : ℕ)
     → test (view (get_or vs i v)) ≡ Some fault → fault_from test vs i ≡ Some fault
 fault_from-here test vs i v fault within some = rw (drop_more vs i v within, some)
 
-digests_behind : (ds : List Data)
-    → first_refusal (flat_map digest_rows ds) ≡ first_there (map digest_test ds)
-unfolding digest_test
-digests_behind [] = refl
-digests_behind (d ∷ ds) =
-    one-behind (digest_rows d) (flat_map digest_rows ds) (first_refusal (digest_rows d))
-    (first_there (map digest_test ds)) refl (digests_behind ds)
-    ∙ there-behind (first_refusal (digest_rows d)) (map digest_test ds)
+rows_behind : (rows : Data → List (Row Fault)) (ds : List Data)
+    → first_refusal (flat_map rows ds) ≡ first_there (map (λ d. first_refusal (rows d)) ds)
+rows_behind rows [] = refl
+rows_behind rows (d ∷ ds) =
+    let test : Data → Option Fault = λ d. first_refusal (rows d) in
+    one-behind (rows d) (flat_map rows ds) (test d) (first_there (map test ds)) refl
+    (rows_behind rows ds)
+    ∙ there-behind (test d) (map test ds)
+
+-- the first fault of a list whose entries have rows of their own
+pub along_is : (rows : Data → List (Row Fault)) (vs : List Value)
+    → first_refusal (flat_map rows (map view vs)) ≡ fault_from (λ d. first_refusal (rows d)) vs 0
+along_is rows vs = rows_behind rows (map view vs)
 
 pub digests_test_is : (vs : List Value)
     → digests_test (map view vs) ≡ fault_from digest_test vs 0
-unfolding digests_test
-digests_test_is vs = digests_behind (map view vs)
+unfolding digests_test digest_test
+digests_test_is vs = along_is digest_rows vs
 
 -- the tests of the entries behind those of these devices, in order; each takes of what is left
 abbrev pub entry_tests : ℕ → List DeviceValue → List Data → List (Option Fault)

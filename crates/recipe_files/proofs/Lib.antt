@@ -1,3 +1,12 @@
+pub mod BuildLemmas
+pub mod ByteLists
 pub mod Documents
 pub mod Entries
 pub mod FaultLemmas
+pub mod HexLemmas
+pub mod IndexLemmas
+pub mod PartLemmas
+pub mod RecipeFaults
+pub mod RecipeLemmas
+pub mod SectionLemmas
+pub mod SeenLemmas

@@ -1,4 +1,4 @@
--- The faults of a board's text: rows of test and fault at a key, in tables of which the first row
+-- The faults of a text: rows of test and fault at a key, in tables of which the first row
 -- that holds decides.
 use Rattle.std.specs.Prelude.{◌≡◌, Bool, List, Option, None, Some, Result, Ok, Err}
 use Rattle.std.specs.List.{flat_map}
@@ -7,7 +7,10 @@ use Rattle.recipe_files.specs.declared.faults.BadKind.{BadKind}
 use Rattle.recipe_files.specs.declared.faults.Fault.{Fault}
 use Rattle.recipe_files.specs.declared.faults.Stop.{Stop}
 use Rattle.recipe_files.specs.declared.faults.Stop.TheVariants.{Bad, Memory}
+use Rattle.recipe_files.specs.declared.faults.FileFault.{FileFault}
+use Rattle.recipe_files.specs.declared.faults.FileFault.TheVariants as file
 use Rattle.recipe_files.specs.declared.keys.Key.{Key}
+use Rattle.recipe_files.specs.Keys.{key_name}
 
 -- a row of its test, and of the kind and the key of its fault
 abbrev pub fault_row : Bool → BadKind → Key → Row Fault
@@ -23,3 +26,9 @@ abbrev pub Reads : {V : Type 0} → Option Fault → (V → Type 0) → Result V
 Reads refused IsRead (Ok v) = (refused ≡ None) × IsRead v
 Reads refused IsRead (Err (Bad fault)) = refused ≡ Some fault
 Reads refused IsRead (Err Memory) = Unit {0}
+
+-- the fault is told with the plain name of its key, or want of memory
+abbrev pub TellsStop : Stop → FileFault → Type 0
+TellsStop (Bad fault) (file.Bad kind key) = (kind ≡ fault.kind) × (key ≡ key_name fault.key)
+TellsStop Memory (file.Bad kind key) = ⊥
+TellsStop stop file.Memory = Unit {0}

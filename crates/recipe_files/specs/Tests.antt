@@ -3,7 +3,8 @@
 use Rattle.std.specs.Prelude.{ℕ, ℤ, pos, negsuc, Bool, true, false, ◌&&◌, not, length, nat_le, List}
 use Rattle.std.specs.Prelude.{[], ◌∷◌, Option, None, Some, is_ok, is_some}
 use Rattle.std.specs.List.{flat_map}
-use Rattle.toml.specs.Data.{Data, Members, as_array, as_integer, as_str, get_member}
+use Rattle.toml.specs.Data.{Data, Members, as_array, as_bool, as_integer}
+use Rattle.toml.specs.Data.{as_str, get_member}
 use Rattle.cu_base.specs.Guids.{guid_of_text}
 use Rattle.cu_base.specs.Refusals.{Row, first_refusal}
 use Rattle.bench_model.specs.Names.{is_device_name}
@@ -15,8 +16,10 @@ use Rattle.recipe_files.specs.declared.keys.Key.{Key}
 use Rattle.recipe_files.specs.declared.keys.Key.TheVariants.{Digests}
 use Rattle.recipe_files.specs.Digests.{digest_of_text}
 use Rattle.recipe_files.specs.Faults.{fault_row}
+use Rattle.recipe_files.specs.Hexes.{is_hex, shows_section}
+use Rattle.recipe_files.specs.InputNames.{is_input_name}
 use Rattle.recipe_files.specs.Keys.{Values, nothing, numbers, names, layouts, guids, hashes, lists}
-use Rattle.recipe_files.specs.Keys.{optional}
+use Rattle.recipe_files.specs.Keys.{inputs, hexes, sections, truths, optional}
 use Rattle.recipe_files.specs.Keys.{key_name, values_of}
 use Rattle.recipe_files.specs.Values.{entries, is_layout}
 
@@ -28,6 +31,10 @@ is_required names = true
 is_required layouts = true
 is_required guids = true
 is_required hashes = true
+is_required inputs = true
+is_required hexes = true
+is_required sections = true
+is_required truths = true
 is_required (lists most) = true
 is_required (optional values) = false
 
@@ -39,6 +46,10 @@ is_of_kind names d = is_some (as_str d)
 is_of_kind layouts d = is_some (as_str d)
 is_of_kind guids d = is_some (as_str d)
 is_of_kind hashes d = is_some (as_str d)
+is_of_kind inputs d = is_some (as_str d)
+is_of_kind hexes d = is_some (as_str d)
+is_of_kind sections d = is_some (as_str d)
+is_of_kind truths d = is_some (as_bool d)
 is_of_kind (lists most) d = is_some (as_array d)
 is_of_kind (optional values) d = is_of_kind values d
 
@@ -60,6 +71,10 @@ is_in_range names d = passes is_device_name (as_str d)
 is_in_range layouts d = passes is_layout (as_str d)
 is_in_range guids d = passes (λ text. is_ok (guid_of_text text)) (as_str d)
 is_in_range hashes d = passes (λ text. is_some (digest_of_text text)) (as_str d)
+is_in_range inputs d = passes is_input_name (as_str d)
+is_in_range hexes d = passes is_hex (as_str d)
+is_in_range sections d = passes shows_section (as_str d)
+is_in_range truths d = is_some (as_bool d)
 is_in_range (lists most) d = passes (λ items. nat_le (length (entries items)) most) (as_array d)
 is_in_range (optional values) d = is_in_range values d
 
@@ -71,6 +86,10 @@ range_kind names = OutOfRange
 range_kind layouts = OutOfRange
 range_kind guids = BadGuid
 range_kind hashes = OutOfRange
+range_kind inputs = OutOfRange
+range_kind hexes = OutOfRange
+range_kind sections = OutOfRange
+range_kind truths = OutOfRange
 range_kind (lists most) = OutOfRange
 range_kind (optional values) = range_kind values
 

@@ -1,14 +1,20 @@
 -- The values that a table holds at its keys.
-use Rattle.std.specs.Prelude.{ℕ, ℤ, pos, negsuc, Bool, ◌||◌, List, [], ◌∷◌, codes, replicate}
-use Rattle.std.specs.Prelude.{unwrap_or}
+use Rattle.std.specs.Prelude.{ℕ, ℤ, pos, negsuc, Bool, false, ◌||◌, List, [], ◌∷◌, codes}
+use Rattle.std.specs.Prelude.{replicate, Option, is_some, option_map, unwrap_or}
+use Rattle.std.specs.Prelude.{None, Some, map, Vec}
+use denote.Ref.{Bor}
+use Rattle.std.specs.declared.alloc.Global.{Global}
+use Rattle.toml.specs.declared.value.Value.{Value}
+use Rattle.toml.specs.View.{view}
 use Rattle.std.specs.Option.{option_map_or}
 use Rattle.std.specs.Result.{result_unwrap_or}
 use Rattle.std.specs.Str.{bytes_eq}
-use Rattle.toml.specs.Data.{Data, Items, no_items, item, Members, as_array, as_integer, as_str}
-use Rattle.toml.specs.Data.{get_member}
+use Rattle.toml.specs.Data.{Data, Items, no_items, item, Members, as_array, as_bool, as_integer}
+use Rattle.toml.specs.Data.{as_str, get_member}
 use Rattle.cu_base.specs.declared.guid.Guid.{Guid}
 use Rattle.cu_base.specs.Guids.{guid_of_text}
 use Rattle.recipe_files.specs.declared.keys.Key.{Key}
+use Rattle.recipe_files.specs.Hexes.{bytes_shown}
 use Rattle.recipe_files.specs.Keys.{key_name}
 
 -- the members of a table
@@ -68,3 +74,32 @@ guid_in key table = option_map_or guid_of (get_member (key_name key) table) no_g
 -- the entries of the list at a key
 unfoldable pub entries_in : Key → Members → List Data
 entries_in key table = option_map_or entries_of (get_member (key_name key) table) []
+
+-- a value as a truth value
+abbrev pub truth_of : Data → Bool
+truth_of d = unwrap_or (as_bool d) false
+
+-- a value as the bytes that its text shows
+abbrev pub hex_of : Data → List ℕ
+hex_of d = bytes_shown (text_of d)
+
+-- a key is there
+abbrev pub has_key : Key → Members → Bool
+has_key key table = is_some (get_member (key_name key) table)
+
+-- the truth value at a key
+unfoldable pub truth_in : Key → Members → Bool
+truth_in key table = option_map_or truth_of (get_member (key_name key) table) false
+
+-- the bytes that the text at a key shows
+unfoldable pub bytes_in : Key → Members → List ℕ
+bytes_in key table = option_map_or hex_of (get_member (key_name key) table) []
+
+-- the same, or None where the key is absent
+unfoldable pub bytes_or_none : Key → Members → Option (List ℕ)
+bytes_or_none key table = option_map hex_of (get_member (key_name key) table)
+
+-- the entries of a list, if there is one
+abbrev pub entries_seen : Option (Bor (Vec Value Global)) → List Data
+entries_seen None = []
+entries_seen (Some list) = map view list.now.items

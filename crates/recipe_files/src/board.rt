@@ -1,22 +1,21 @@
 ghost use Rattle.std.specs.Prelude.{◌≡◌, ◌≤◌, Some, None, Ok, IfOk, IfErr, MatchResult, length};
 ghost use Rattle.std.specs.Prelude.{map};
 ghost use Rattle.toml.specs.View.{view, table_view};
-ghost use Rattle.recipe_files.specs.Boards.{FindsTable, TellsFault, board_in, board_of};
-ghost use Rattle.recipe_files.specs.Boards.{bank_test, board_test, board_text, document};
-ghost use Rattle.recipe_files.specs.Boards.{document_test, some_test};
+ghost use Rattle.recipe_files.specs.Boards.{bank_test, board_in, board_test, board_text, some_test};
+ghost use Rattle.recipe_files.specs.Documents.{TellsFault, document, text_says, text_test};
 ghost use Rattle.bench_model.specs.Boards.{least_bank, most_capacity};
 ghost use Rattle.recipe_files.specs.Faults.{Reads};
 
 use crate::devices::read_devices;
 use crate::digests::read_digests;
+use crate::document::{read_document, told};
 use crate::faults::{BadKind, Fault, FileFault, Stop};
-use crate::keys::{Key, key_name};
+use crate::keys::Key;
 use crate::values::{is_two_at, list_at, number_at, number_or};
 use bench_model::{
     BANK_BASE, Board, MAX_BANK, MAX_CAPACITIES, MAX_DEVICES, MAX_DIGESTS, MAX_STORE,
     MAX_TWO_BANK_CAPACITIES, MIN_BANK, MIN_STORE, RESULT_ROOM,
 };
-use cu_base::Text;
 use std::alloc::Global;
 use toml::Table;
 use toml::value::Array;
@@ -89,28 +88,9 @@ fn read_table(alloc: Global, table: &Table) -> Result<Board, Stop>
     Ok(Board::new(bank, store, two_banks, result_max, digests, devices))
 }
 
-/// The document of a text.
-#[tactic(auto, using(crate::proofs::Documents::document_of_text, crate::proofs::Documents::document_of_other))]
-fn read_document(alloc: Global, bytes: &[u8]) -> Result<Table, Stop>
-    ensures { FindsTable (document bytes.now) result }
-{
-    let refused = Fault {
-        kind: BadKind::BadToml,
-        key: Key::Whole,
-    };
-    let Ok(text) = std::str::from_utf8(bytes) else {
-        return Err(Stop::Bad(refused));
-    };
-    match toml::table_from_str(alloc, text) {
-        Ok(table) => Ok(table),
-        Err(fault) if fault.is_memory() => Err(Stop::Memory),
-        Err(_) => Err(Stop::Bad(refused)),
-    }
-}
-
 fn read_text(alloc: Global, bytes: &[u8]) -> Result<Board, Stop>
-    ensures { Reads (document_test (document bytes.now))
-        (λ board. board_of (document bytes.now) ≡ Ok board)
+    ensures { Reads (text_test board_test (document bytes.now))
+        (λ board. text_says board_test board_in (document bytes.now) ≡ Ok board)
         result }
 {
     let table = read_document(alloc, bytes)?;
@@ -129,13 +109,6 @@ pub fn read_board(alloc: Global, bytes: &[u8]) -> Result<Board, FileFault>
 {
     match read_text(alloc, bytes) {
         Ok(board) => Ok(board),
-        Err(Stop::Memory) => Err(FileFault::Memory),
-        Err(Stop::Bad(fault)) => match Text::from_str(alloc, key_name(fault.key)) {
-            Ok(key) => Err(FileFault::Bad {
-                kind: fault.kind,
-                key,
-            }),
-            Err(_) => Err(FileFault::Memory),
-        },
+        Err(stop) => Err(told(alloc, stop)),
     }
 }

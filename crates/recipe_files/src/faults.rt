@@ -66,3 +66,23 @@ impl From<NoMemory> for Stop {
         Stop::Memory
     }
 }
+
+/// Why no capsule was made of a recipe.
+#[derive(Clone, Copy, Debug, PartialEq, Eq, Error)]
+pub enum BuildFault {
+    #[error("the capsule would have more than 67108864 bytes")]
+    TooLarge,
+    #[error("out of memory")]
+    Memory,
+}
+
+impl From<NoMemory> for BuildFault {
+    ghost use Rattle.std.specs.Prelude.{◌≡◌};
+    ghost use Rattle.recipe_files.specs.declared.faults.BuildFault.TheVariants.{Memory};
+
+    ghost from_gives = { λ _ fault. fault ≡ Memory };
+
+    fn from(_none: NoMemory) -> BuildFault {
+        BuildFault::Memory
+    }
+}

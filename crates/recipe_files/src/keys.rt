@@ -1,7 +1,7 @@
 ghost use Rattle.std.specs.Prelude.{◌≡◌};
 ghost use Rattle.recipe_files.specs.Keys.{key_name};
 
-/// A key of a board's text, or the whole text.
+/// A key of a board's or a recipe's text, or the whole text.
 #[derive(Clone, Copy, Debug, PartialEq, Eq)]
 pub(crate) enum Key {
     Whole,
@@ -20,6 +20,21 @@ pub(crate) enum Key {
     Version,
     Floor,
     Flags,
+    CapsuleGuid,
+    Ext,
+    Body,
+    Drivers,
+    Item,
+    Header,
+    Auth,
+    FwVersion,
+    Lowest,
+    Payload,
+    Vendor,
+    Monotonic,
+    CertType,
+    Cert,
+    Dep,
 }
 
 /// The plain name of the key, and `-` for the whole text.
@@ -43,5 +58,20 @@ pub(crate) fn key_name(key: Key) -> &'static str
         Key::Version => "version",
         Key::Floor => "floor",
         Key::Flags => "flags",
+        Key::CapsuleGuid => "guid",
+        Key::Ext => "ext",
+        Key::Body => "body",
+        Key::Drivers => "drivers",
+        Key::Item => "item",
+        Key::Header => "header",
+        Key::Auth => "auth",
+        Key::FwVersion => "fw_version",
+        Key::Lowest => "lowest",
+        Key::Payload => "payload",
+        Key::Vendor => "vendor",
+        Key::Monotonic => "monotonic",
+        Key::CertType => "cert_type",
+        Key::Cert => "cert",
+        Key::Dep => "dep",
     }
 }

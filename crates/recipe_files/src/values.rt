@@ -103,10 +103,20 @@ pub(crate) fn name_at<'a>(table: &'a Table, key: Key) -> Result<&'a str, Fault>
 pub(crate) fn guid_at(table: &Table, key: Key) -> Result<Guid, Fault>
     requires { values_of key ≡ guids }
     ensures { MatchResult result
-        (λ guid. (key_test key (table_view table.now) ≡ None) × (guid_in key (table_view table.now) ≡ guid))
+        (λ guid. (key_test key (table_view table.now) ≡ None)
+        × (guid_in key (table_view table.now) ≡ guid))
         (λ fault. key_test key (table_view table.now) ≡ Some fault) }
 {
-    let value = value_at(table, key)?;
+    guid_of(value_at(table, key)?, key)
+}
+
+/// The GUID that the text of a value at a key shows.
+pub(crate) fn guid_of(value: &Value, key: Key) -> Result<Guid, Fault>
+    ensures { MatchResult result
+        (λ guid. (first_refusal (value_rows guids key (view value.now)) ≡ None)
+        × (guid_of (view value.now) ≡ guid))
+        (λ fault. first_refusal (value_rows guids key (view value.now)) ≡ Some fault) }
+{
     match value.as_str() {
         Some(text) => match Guid::from_text(text) {
             Ok(guid) => Ok(guid),
@@ -123,7 +133,7 @@ pub(crate) fn guid_at(table: &Table, key: Key) -> Result<Guid, Fault>
 }
 
 /// The list at a key that takes one of at most so many entries.
-#[tactic(auto, unfolding(crate::specs::Tests::key_test, crate::specs::Values::entries_in), using(crate::proofs::Entries::entries_view, crate::proofs::Entries::count_view))]
+#[tactic(auto, unfolding(crate::specs::Tests::key_test, crate::specs::Values::entries_in))]
 pub(crate) fn list_at<'a>(table: &'a Table, key: Key, most: usize) -> Result<&'a Array, Fault>
     requires { values_of key ≡ lists most }
     ensures { MatchResult result
@@ -132,7 +142,18 @@ pub(crate) fn list_at<'a>(table: &'a Table, key: Key, most: usize) -> Result<&'a
         × (length list.now.items ≤ most))
         (λ fault. key_test key (table_view table.now) ≡ Some fault) }
 {
-    let value = value_at(table, key)?;
+    list_of(value_at(table, key)?, key, most)
+}
+
+/// The list that a value at a key is, of at most so many entries.
+#[tactic(auto, using(crate::proofs::Entries::entries_view, crate::proofs::Entries::count_view))]
+pub(crate) fn list_of(value: &Value, key: Key, most: usize) -> Result<&Array, Fault>
+    ensures { MatchResult result
+        (λ list. (first_refusal (value_rows (lists most) key (view value.now)) ≡ None)
+        × (entries_of (view value.now) ≡ map view list.now.items)
+        × (length list.now.items ≤ most))
+        (λ fault. first_refusal (value_rows (lists most) key (view value.now)) ≡ Some fault) }
+{
     match value.as_array() {
         Some(list) if list.len() <= most => Ok(list),
         Some(_) => Err(Fault {
@@ -147,7 +168,7 @@ pub(crate) fn list_at<'a>(table: &'a Table, key: Key, most: usize) -> Result<&'a
 }
 
 /// The value at a key that has to be there.
-fn value_at<'a>(table: &'a Table, key: Key) -> Result<&'a Value, Fault>
+pub(crate) fn value_at<'a>(table: &'a Table, key: Key) -> Result<&'a Value, Fault>
     ensures { MatchResult result
         (λ v. get_member (key_name key) (table_view table.now) ≡ Some (view v.now))
         (λ f. (get_member (key_name key) (table_view table.now) ≡ None)
@@ -160,7 +181,7 @@ fn value_at<'a>(table: &'a Table, key: Key) -> Result<&'a Value, Fault>
 }
 
 /// The value at a key, where it is there.
-fn found_at<'a>(table: &'a Table, key: Key) -> Option<&'a Value>
+pub(crate) fn found_at<'a>(table: &'a Table, key: Key) -> Option<&'a Value>
     ensures { MatchOption result
         (get_member (key_name key) (table_view table.now) ≡ None)
         (λ v. get_member (key_name key) (table_view table.now) ≡ Some (view v.now)) }

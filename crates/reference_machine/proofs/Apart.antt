@@ -13,8 +13,9 @@ use Rattle.reference_machine.specs.Deliveries.{BootUnit}
 use Rattle.reference_machine.specs.Events.{with_file}
 use Rattle.reference_machine.specs.Formats.{Formats}
 use Rattle.reference_machine.specs.Laws.{Distinct, AreApart, have_same_name}
-use Rattle.reference_machine.specs.Machine.{File, Machine}
-use Rattle.reference_machine.specs.Names.{is_same_name}
+use Rattle.bench_model.specs.Files.{File}
+use Rattle.reference_machine.specs.Machine.{Machine}
+use Rattle.bench_model.specs.Files.{is_same_name}
 use Rattle.reference_machine.specs.Spent.{Element, is_open}
 use Rattle.reference_machine.proofs.Keeping.{Keeps}
 

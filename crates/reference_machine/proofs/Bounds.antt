@@ -23,8 +23,9 @@ use Rattle.reference_machine.specs.Formats.{Formats}
 use Rattle.reference_machine.specs.Laws.{IsWithinLimits, IsGiven, SerialsAreGiven}
 use Rattle.reference_machine.specs.Laws.{progress_with_open}
 use Rattle.reference_machine.specs.Stops.{IsHeldEnd}
-use Rattle.reference_machine.specs.Machine.{Machine, File}
-use Rattle.reference_machine.specs.Names.{is_same_name}
+use Rattle.bench_model.specs.Files.{File}
+use Rattle.reference_machine.specs.Machine.{Machine}
+use Rattle.bench_model.specs.Files.{is_same_name}
 use Rattle.reference_machine.specs.Spent.{Element, is_of, is_open}
 use Rattle.reference_machine.specs.Spent.Standing.{Open, Closed}
 use Rattle.reference_machine.specs.TraceValues.{AnswerValue}

@@ -9,7 +9,7 @@ use Rattle.reference_machine.specs.declared.unit.UnitKey.{UnitKey}
 use Rattle.reference_machine.specs.Boots.{BootTask, progress_with}
 use Rattle.reference_machine.specs.Boots.BootTask.{Settles, Unstages, Does, Prunes, Removes, Clears}
 use Rattle.reference_machine.specs.Deliveries.{BootUnit}
-use Rattle.reference_machine.specs.Machine.{File}
+use Rattle.bench_model.specs.Files.{File}
 use Rattle.reference_machine.specs.Spent.{Element, is_of, is_open, is_closed, spent}
 use Rattle.reference_machine.proofs.Keys.{Numbered}
 use Rattle.reference_machine.proofs.Tests.{both_left, both_right}

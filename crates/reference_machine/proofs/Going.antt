@@ -20,7 +20,8 @@ use Rattle.reference_machine.specs.Boots.Course.{Claim, Close}
 use Rattle.reference_machine.specs.Deliveries.{BootUnit, units}
 use Rattle.reference_machine.specs.Formats.{Formats, Parts}
 use Rattle.reference_machine.specs.Stops.{IsHeldEnd}
-use Rattle.reference_machine.specs.Machine.{Machine, File}
+use Rattle.bench_model.specs.Files.{File}
+use Rattle.reference_machine.specs.Machine.{Machine}
 use Rattle.reference_machine.specs.Spent.{spent, Element, is_open, is_attempt, is_attempted}
 use Rattle.reference_machine.specs.Spent.{floor_of}
 use Rattle.reference_machine.specs.Spent.Standing.{Open, Closed}

@@ -14,7 +14,8 @@ use Rattle.reference_machine.specs.Boots.BootTask.{Settles, Unstages, Does, Prun
 use Rattle.reference_machine.specs.Deliveries.{BootUnit, pieces, units}
 use Rattle.reference_machine.specs.Formats.{Formats}
 use Rattle.reference_machine.specs.Laws.{Distinct}
-use Rattle.reference_machine.specs.Machine.{File, Machine}
+use Rattle.bench_model.specs.Files.{File}
+use Rattle.reference_machine.specs.Machine.{Machine}
 use Rattle.reference_machine.proofs.Apart.{all_both, all_kept, all_imply, all_more, distinct_kept}
 use Rattle.reference_machine.proofs.Apart.{distinct_more, kept_pass}
 use Rattle.reference_machine.proofs.Filing.{has, same_of, has_all, has_filter, IsKnown}

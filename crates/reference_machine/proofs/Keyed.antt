@@ -8,7 +8,7 @@ use Rattle.std.proofs.lemmas.Bool.Decides.{nat_tests}
 use Rattle.reference_machine.specs.declared.snapshot.StagedPair.{StagedPair}
 use Rattle.reference_machine.specs.declared.unit.End.{End}
 use Rattle.reference_machine.specs.declared.unit.UnitKey.{UnitKey}
-use Rattle.reference_machine.specs.Boots.{BootTask, BootState, Course, after, after_unit}
+use Rattle.reference_machine.specs.Boots.{BootTask, BootState, Course, after, after_unit, element_of}
 use Rattle.reference_machine.specs.Boots.{after_steps, boot_start, boot_at, boot_tasks, tasks_with}
 use Rattle.reference_machine.specs.Boots.{staged_tasks, folder_tasks, file_tasks, file_delivery}
 use Rattle.reference_machine.specs.Boots.{files_in_order, pair_tasks, memory_delivery}
@@ -20,8 +20,10 @@ use Rattle.reference_machine.specs.Deliveries.{BootUnit, pieces, units}
 use Rattle.reference_machine.specs.Formats.{Formats}
 use Rattle.reference_machine.specs.Laws.{AreApart}
 use Rattle.reference_machine.specs.Stops.{IsHeldEnd}
-use Rattle.reference_machine.specs.Machine.{Machine, File}
-use Rattle.reference_machine.specs.Spent.{Element, is_of, is_open, spent}
+use Rattle.bench_model.specs.Files.{File}
+use Rattle.reference_machine.specs.Machine.{Machine}
+use Rattle.reference_machine.specs.Spent.{Element, Standing, is_of, is_open, spent}
+use Rattle.reference_machine.specs.Spent.Standing.{Open, Closed}
 use Rattle.reference_machine.proofs.Apart.{all_kept, all_imply, all_more, kept_pass, no_longer}
 use Rattle.reference_machine.proofs.Apart.{settled_apart, boot_apart, apart_keeps}
 use Rattle.reference_machine.proofs.Going.{Sound, sound_of, boot_going}
@@ -33,12 +35,15 @@ use Rattle.reference_machine.proofs.Lists.{Rests, NoneOpen, find_none, find_last
 use Rattle.reference_machine.proofs.Ordered.{all_ordered, distinct_ordered, turned, files_ahead}
 use Rattle.reference_machine.proofs.Ordered.{staged_ahead}
 
-pub record Keyed (m : Machine) : Type 0 where
-  pub gapless : Gapless [] (keys_of m.list)
-  pub waiting : AllByRecursion (λ (p : StagedPair). count 0 p.serial (keys_of m.list) ≡ 0) m.staged
+-- the keys of a list, the staged deliveries and the last serial that was given to one
+pub record AreKeyed (keys : List UnitKey) (staged : List StagedPair) (last : ℕ) : Type 0 where
+  pub gapless : Gapless [] keys
+  pub waiting : AllByRecursion (λ (p : StagedPair). count 0 p.serial keys ≡ 0) staged
   pub below : AllByRecursion
-      (λ (k : UnitKey). (k.ticket.route == 0) ≡ true → k.ticket.serial ≤ m.last_staged)
-      (keys_of m.list)
+      (λ (k : UnitKey). (k.ticket.route == 0) ≡ true → k.ticket.serial ≤ last) keys
+
+abbrev pub Keyed : Machine → Type 0
+Keyed m = AreKeyed (keys_of m.list) m.staged m.last_staged
 
 -- the units by memory that are left are of deliveries that wait no longer
 abbrev pub Waits : ℕ → List StagedPair → List BootTask → Type 0
@@ -55,32 +60,23 @@ Waits last staged (Prunes ∷ rest) = Waits last staged rest
 Waits last staged (Removes serial ∷ rest) = Waits last staged rest
 Waits last staged (Clears ∷ rest) = Waits last staged rest
 
-pub record Runs (m : Machine) (left : List BootTask) : Type 0 where
-  pub keyed : Keyed m
-  pub ahead : Ahead (keys_of m.list) left
-  pub waits : Waits m.last_staged m.staged left
+-- with the tasks that are left
+pub record AreRunning (keys : List UnitKey) (staged : List StagedPair) (last : ℕ)
+    (left : List BootTask) : Type 0 where
+  pub keyed : AreKeyed keys staged last
+  pub ahead : Ahead keys left
+  pub waits : Waits last staged left
+
+abbrev pub Runs : Machine → List BootTask → Type 0
+Runs m left = AreRunning (keys_of m.list) m.staged m.last_staged left
 
 -- the same keys, staged deliveries and last serial
 runs_same : (m n : Machine) (left : List BootTask) → keys_of n.list ≡ keys_of m.list
     → n.staged ≡ m.staged → n.last_staged ≡ m.last_staged → Runs m left → Runs n left
 runs_same m n left ek es el r =
-    let on_last : (l : ℕ) → List StagedPair → List UnitKey → Type 0 = λ l ss ks.
-    Gapless [] ks × AllByRecursion (λ (p : StagedPair). count 0 p.serial ks ≡ 0) ss
-    × AllByRecursion (λ (k : UnitKey). (k.ticket.route == 0) ≡ true → k.ticket.serial ≤ l) ks
-    × Ahead ks left × Waits l ss left in
-    let start : on_last m.last_staged m.staged (keys_of m.list) =
-    (r.keyed.gapless, r.keyed.waiting, r.keyed.below, r.ahead, r.waits) in
-    let a : on_last m.last_staged m.staged (keys_of n.list) =
-    subst (on_last m.last_staged m.staged) (sym ek) start in
-    let b : on_last m.last_staged n.staged (keys_of n.list) =
-    subst (λ ss. on_last m.last_staged ss (keys_of n.list)) (sym es) a in
-    let c : on_last n.last_staged n.staged (keys_of n.list) =
-    subst (λ l. on_last l n.staged (keys_of n.list)) (sym el) b in
-    record {
-      keyed = record { gapless = c.0; waiting = c.1; below = c.2 };
-      ahead = c.3;
-      waits = c.4;
-    }
+    subst (λ l. AreRunning (keys_of n.list) n.staged l left) (sym el)
+    (subst (λ ss. AreRunning (keys_of n.list) ss m.last_staged left) (sym es)
+    (subst (λ ks. AreRunning ks m.staged m.last_staged left) (sym ek) r))
 
 settled_keys : (m : Machine) (end : End) (o : Option Element)
     → keys_of (settled_with m end o).list ≡ keys_of m.list
@@ -106,60 +102,50 @@ not_waiting k s h = by_route (k.ticket.route == 0) refl
     by_route true e = turned s k.ticket.serial (h e)
     by_route false e = refl
 
--- the machine with one more element
-element_runs : (m n : Machine) (u : BootUnit) (rest : List BootTask)
-    → keys_of n.list ≡ keys_of m.list ++ u.key ∷ [] → n.staged ≡ m.staged
-    → n.last_staged ≡ m.last_staged → Runs m (Does u ∷ rest) → Runs n rest
-element_runs m n u rest ek es el r =
-    let keys : List UnitKey = keys_of m.list in
-    let on_last : (l : ℕ) → List StagedPair → List UnitKey → Type 0 = λ l ss ks.
-    Gapless [] ks × AllByRecursion (λ (p : StagedPair). count 0 p.serial ks ≡ 0) ss
-    × AllByRecursion (λ (k : UnitKey). (k.ticket.route == 0) ≡ true → k.ticket.serial ≤ l) ks
-    × Ahead ks rest × Waits l ss rest in
-    let more : on_last m.last_staged m.staged (keys ++ u.key ∷ []) = (
-      gapless_more [] keys u.key r.keyed.gapless r.ahead.0,
-      still_waiting m.staged r.keyed.waiting (λ h. (r.waits.0 h).1),
-      all_more (λ (k : UnitKey). (k.ticket.route == 0) ≡ true
-          → k.ticket.serial ≤ m.last_staged) keys u.key r.keyed.below (λ h. (r.waits.0 h).0),
-      r.ahead.1,
-      r.waits.1,
-    ) in
-    let a : on_last m.last_staged m.staged (keys_of n.list) =
-    subst (on_last m.last_staged m.staged) (sym ek) more in
-    let b : on_last m.last_staged n.staged (keys_of n.list) =
-    subst (λ ss. on_last m.last_staged ss (keys_of n.list)) (sym es) a in
-    let c : on_last n.last_staged n.staged (keys_of n.list) =
-    subst (λ l. on_last l n.staged (keys_of n.list)) (sym el) b in
-    record {
-      keyed = record { gapless = c.0; waiting = c.1; below = c.2 };
-      ahead = c.3;
-      waits = c.4;
-    }
+-- with one more key
+key_runs : (keys : List UnitKey) (staged : List StagedPair) (last : ℕ) (u : BootUnit)
+    (rest : List BootTask) → AreRunning keys staged last (Does u ∷ rest)
+    → AreRunning (keys ++ u.key ∷ []) staged last rest
+key_runs keys staged last u rest r = record {
+  keyed = record {
+    gapless = gapless_more [] keys u.key r.keyed.gapless r.ahead.0;
+    waiting = still_waiting staged r.keyed.waiting (λ h. (r.waits.0 h).1);
+    below = all_more (λ (k : UnitKey). (k.ticket.route == 0) ≡ true → k.ticket.serial ≤ last) keys
+        u.key r.keyed.below (λ h. (r.waits.0 h).0);
+  };
+  ahead = r.ahead.1;
+  waits = r.waits.1;
+}
   where
     still_waiting : (ps : List StagedPair)
-        → AllByRecursion (λ (p : StagedPair). count 0 p.serial (keys_of m.list) ≡ 0) ps
+        → AllByRecursion (λ (p : StagedPair). count 0 p.serial keys ≡ 0) ps
         → ((u.key.ticket.route == 0) ≡ true
         → AllByRecursion (λ (q : StagedPair). (q.serial == u.key.ticket.serial) ≡ false) ps)
-        → AllByRecursion
-        (λ (p : StagedPair). count 0 p.serial (keys_of m.list ++ u.key ∷ []) ≡ 0) ps
+        → AllByRecursion (λ (p : StagedPair). count 0 p.serial (keys ++ u.key ∷ []) ≡ 0) ps
     still_waiting [] all h = tt
     still_waiting (p ∷ ps) all h = (
-      count_other 0 p.serial (keys_of m.list) u.key (not_waiting u.key p.serial (λ e. (h e).0))
-          ∙ all.0,
+      count_other 0 p.serial keys u.key (not_waiting u.key p.serial (λ e. (h e).0)) ∙ all.0,
       still_waiting ps all.1 (λ e. (h e).1),
     )
+
+-- and with the element of a unit
+unit_left : (f : Formats) (m : Machine) (u : BootUnit) (rest : List BootTask) (standing : Standing)
+    → Runs m (Does u ∷ rest)
+    → AreRunning (keys_of (m.list ++ element_of f u standing ∷ [])) m.staged m.last_staged rest
+unit_left f m u rest standing r =
+    subst (λ ks. AreRunning ks m.staged m.last_staged rest)
+    (sym (keys_append m.list (element_of f u standing ∷ [])))
+    (key_runs (keys_of m.list) m.staged m.last_staged u rest r)
 
 unit_runs : (f : Formats) (b : BootState) (u : BootUnit) (rest : List BootTask) (c : Course)
     → Runs b.machine (Does u ∷ rest)
     → Runs (after_unit f b u rest c).machine (after_unit f b u rest c).left
 unit_runs f b u rest Claim r =
-    let n : Runs (after_unit f b u rest Claim).machine rest =
-    element_runs b.machine (after_unit f b u rest Claim).machine u rest
-    (keys_append b.machine.list _) refl refl r in
+    let n : AreRunning (keys_of (b.machine.list ++ element_of f u Open ∷ [])) b.machine.staged
+    b.machine.last_staged rest = unit_left f b.machine u rest Open r in
     record { keyed = n.keyed; ahead = n.ahead; waits = n.waits }
 unit_runs f b u rest (Close end) r =
-    element_runs b.machine (after_unit f b u rest (Close end)).machine u rest
-    (keys_append b.machine.list _) refl refl r
+    unit_left f b.machine u rest (Closed end b.machine.now) r
 
 after_runs : (f : Formats) (b : BootState) (left : List BootTask) → b.left ≡ left
     → Runs b.machine left → Runs (after f b left).machine (after f b left).left
@@ -180,21 +166,12 @@ after_runs f b (Unstages p ∷ rest) e r = record {
   waits = r.waits;
 }
 after_runs f b (Does u ∷ rest) e r = unit_runs f b u rest (course_of f b.machine u u.kind) r
-after_runs f b (Prunes ∷ rest) e r = record {
-  keyed = record { gapless = r.keyed.gapless; waiting = r.keyed.waiting; below = r.keyed.below };
-  ahead = r.ahead;
-  waits = r.waits;
-}
-after_runs f b (Removes serial ∷ rest) e r = record {
-  keyed = record { gapless = r.keyed.gapless; waiting = r.keyed.waiting; below = r.keyed.below };
-  ahead = r.ahead;
-  waits = r.waits;
-}
-after_runs f b (Clears ∷ rest) e r = record {
-  keyed = record { gapless = r.keyed.gapless; waiting = r.keyed.waiting; below = r.keyed.below };
-  ahead = r.ahead;
-  waits = r.waits;
-}
+after_runs f b (Prunes ∷ rest) e r =
+    record { keyed = r.keyed; ahead = r.ahead; waits = r.waits }
+after_runs f b (Removes serial ∷ rest) e r =
+    record { keyed = r.keyed; ahead = r.ahead; waits = r.waits }
+after_runs f b (Clears ∷ rest) e r =
+    record { keyed = r.keyed; ahead = r.ahead; waits = r.waits }
 
 steps_runs : (f : Formats) (n : ℕ) (b : BootState) → Runs b.machine b.left
     → Runs (after_steps f n b).machine (after_steps f n b).left
@@ -409,41 +386,27 @@ orderly_keeps f = record {
   fails = λ m o. record {
     sound = o.sound;
     apart = (apart_keeps f).fails m o.apart;
-    keyed = record {
-      gapless = o.keyed.gapless;
-      waiting = o.keyed.waiting;
-      below = o.keyed.below;
-    };
+    keyed = o.keyed;
   };
   later = λ m moment o. record {
     sound = o.sound;
     apart = (apart_keeps f).later m moment o.apart;
-    keyed = record {
-      gapless = o.keyed.gapless;
-      waiting = o.keyed.waiting;
-      below = o.keyed.below;
-    };
+    keyed = o.keyed;
   };
   puts = λ m file bytes e o. record {
     sound = o.sound;
     apart = (apart_keeps f).puts m file bytes e o.apart;
-    keyed =
-        record { gapless = o.keyed.gapless; waiting = o.keyed.waiting; below = o.keyed.below };
+    keyed = o.keyed;
   };
   asks = λ m o. record {
     sound = o.sound;
     apart = (apart_keeps f).asks m o.apart;
-    keyed = record {
-      gapless = o.keyed.gapless;
-      waiting = o.keyed.waiting;
-      below = o.keyed.below;
-    };
+    keyed = o.keyed;
   };
   lays = λ m address bytes o. record {
     sound = o.sound;
     apart = (apart_keeps f).lays m address bytes o.apart;
-    keyed =
-        record { gapless = o.keyed.gapless; waiting = o.keyed.waiting; below = o.keyed.below };
+    keyed = o.keyed;
   };
   stages = λ m address e o. record {
     sound = o.sound;
@@ -462,20 +425,12 @@ orderly_keeps f = record {
   cold = λ m o. record {
     sound = o.sound;
     apart = (apart_keeps f).cold m o.apart;
-    keyed = record {
-      gapless = o.keyed.gapless;
-      waiting = o.keyed.waiting;
-      below = o.keyed.below;
-    };
+    keyed = o.keyed;
   };
   warm = λ m o. record {
     sound = o.sound;
     apart = (apart_keeps f).warm m o.apart;
-    keyed = record {
-      gapless = o.keyed.gapless;
-      waiting = o.keyed.waiting;
-      below = o.keyed.below;
-    };
+    keyed = o.keyed;
   };
   boots = λ m h j held o. boot_orderly f m h j held o;
 }

@@ -13,7 +13,8 @@ use Rattle.reference_machine.specs.Boots.BootTask.{Does, Removes}
 use Rattle.reference_machine.specs.Deliveries.{BootUnit, pieces, units}
 use Rattle.reference_machine.specs.Formats.{Formats}
 use Rattle.reference_machine.specs.Laws.{Distinct}
-use Rattle.reference_machine.specs.Machine.{Machine, File}
+use Rattle.bench_model.specs.Files.{File}
+use Rattle.reference_machine.specs.Machine.{Machine}
 use Rattle.reference_machine.specs.Order.{inserted, in_order}
 use Rattle.reference_machine.specs.Spent.{spent}
 use Rattle.reference_machine.proofs.Keys.{count, Ahead, Numbered, unit_keys, all_numbered}

@@ -25,7 +25,8 @@ use Rattle.reference_machine.specs.Deliveries.{capsule_pieces, item_pieces, is_p
 use Rattle.reference_machine.specs.Deliveries.{is_target, targets, unit_of}
 use Rattle.reference_machine.specs.Formats.{Capsule, Formats, Item, ItemHead}
 use Rattle.reference_machine.specs.Laws.{IsWithinLimits, KeepsLimits}
-use Rattle.reference_machine.specs.Machine.{Machine, File}
+use Rattle.bench_model.specs.Files.{File}
+use Rattle.reference_machine.specs.Machine.{Machine}
 use Rattle.reference_machine.specs.Names.{is_taken_before}
 use Rattle.reference_machine.specs.Spent.{Element, is_open, spent}
 use Rattle.reference_machine.proofs.Ending.{weight, weight_most}

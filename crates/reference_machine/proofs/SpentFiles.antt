@@ -18,8 +18,9 @@ use Rattle.reference_machine.specs.Events.{with_file}
 use Rattle.reference_machine.specs.Formats.{Formats}
 use Rattle.reference_machine.specs.Laws.{AreApart, SpentFilesHaveProgress}
 use Rattle.reference_machine.specs.Stops.{IsHeldEnd}
-use Rattle.reference_machine.specs.Machine.{Machine, File}
-use Rattle.reference_machine.specs.Names.{is_same_name}
+use Rattle.bench_model.specs.Files.{File}
+use Rattle.reference_machine.specs.Machine.{Machine}
+use Rattle.bench_model.specs.Files.{is_same_name}
 use Rattle.reference_machine.specs.Spent.{Element, is_of, is_open, is_closed, spent}
 use Rattle.reference_machine.specs.Spent.Standing.{Open, Closed}
 use Rattle.reference_machine.proofs.Apart.{all_both, all_kept, all_imply, all_more, boot_apart}

@@ -15,7 +15,8 @@ use Rattle.reference_machine.specs.declared.unit.UnitKey.{UnitKey}
 use Rattle.reference_machine.specs.declared.unit.UnitLine.{UnitLine}
 use Rattle.reference_machine.specs.Formats.{Parts, Formats}
 use Rattle.reference_machine.specs.Deliveries.{Delivery, BootUnit, units}
-use Rattle.reference_machine.specs.Machine.{File, Machine}
+use Rattle.bench_model.specs.Files.{File}
+use Rattle.reference_machine.specs.Machine.{Machine}
 use Rattle.reference_machine.specs.Names.{is_taken_before}
 use Rattle.reference_machine.specs.Order.{in_order}
 use Rattle.reference_machine.specs.Report.{ReportValue}

@@ -21,8 +21,9 @@ use Rattle.reference_machine.specs.declared.unit.End.{End}
 use Rattle.reference_machine.specs.declared.unit.End.TheVariants.{Sealed, Kept, Lost}
 use Rattle.reference_machine.specs.Boots.{BootState, boot_of, files_in_order, staged_in_order}
 use Rattle.reference_machine.specs.Formats.{Formats}
-use Rattle.reference_machine.specs.Machine.{File, Machine}
-use Rattle.reference_machine.specs.Names.{is_same_name}
+use Rattle.bench_model.specs.Files.{File}
+use Rattle.reference_machine.specs.Machine.{Machine}
+use Rattle.bench_model.specs.Files.{is_same_name}
 use Rattle.reference_machine.specs.Report.{ReportValue, nothing_done}
 use Rattle.reference_machine.specs.Results.{esrt_of, results_of, last_result}
 use Rattle.reference_machine.specs.Stops.{StopCause, IsHeldEnd, Agrees, stops}

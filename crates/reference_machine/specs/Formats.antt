@@ -2,6 +2,7 @@
 -- delivery, the parts of an update image, and the bytes behind a scatter list.
 use Rattle.std.specs.Prelude.{ℕ, Bool, List, Option}
 use Rattle.cu_base.specs.declared.guid.Guid.{Guid}
+use Rattle.bench_model.specs.declared.segment.Segment.{Segment}
 
 -- what the header of an image item says of its target and of its parts (UEFI 2.10, 23.3)
 pub record ItemHead : Type 0 where
@@ -29,11 +30,6 @@ pub record Parts : Type 0 where
   pub lowest : ℕ
   pub dependency : List ℕ
   pub payload : List ℕ
-
--- bytes that are laid into memory at an address
-pub record Segment : Type 0 where
-  pub address : ℕ
-  pub bytes : List ℕ
 
 -- what a boot reads of bytes: each is None where the bytes are refused. Whether versions satisfy a
 -- dependency section is asked of sections that are not empty; one that is refused is not satisfied.

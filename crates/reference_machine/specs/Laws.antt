@@ -16,8 +16,9 @@ use Rattle.bench_model.specs.Boards.{BoardValue}
 use Rattle.reference_machine.specs.Boots.{boot_at, progress_with}
 use Rattle.reference_machine.specs.Events.{Act, Step, laid_bytes}
 use Rattle.reference_machine.specs.Formats.{Capsule, Formats}
-use Rattle.reference_machine.specs.Machine.{File, Machine, fresh}
-use Rattle.reference_machine.specs.Names.{is_same_name}
+use Rattle.bench_model.specs.Files.{File}
+use Rattle.reference_machine.specs.Machine.{Machine, fresh}
+use Rattle.bench_model.specs.Files.{is_same_name}
 use Rattle.reference_machine.specs.Spent.{Element, is_open, is_attempt, floor_of, is_of, spent}
 use Rattle.reference_machine.specs.Spent.Standing.{Closed}
 use Rattle.reference_machine.specs.Stops.{IsHeldEnd}

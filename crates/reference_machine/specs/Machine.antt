@@ -4,14 +4,9 @@ use Rattle.std.specs.Prelude.{ℕ, Bool, false, List, [], pos}
 use Rattle.cu_base.specs.declared.time.EfiTime.{EfiTime}
 use Rattle.reference_machine.specs.declared.snapshot.StagedPair.{StagedPair}
 use Rattle.bench_model.specs.Boards.{BoardValue}
-use Rattle.reference_machine.specs.Formats.{Segment}
+use Rattle.bench_model.specs.Files.{File}
+use Rattle.bench_model.specs.declared.segment.Segment.{Segment}
 use Rattle.reference_machine.specs.Spent.{Element}
-
--- a file of the update folder
-pub record File : Type 0 where
-  pub name : List ℕ
-  pub serial : ℕ
-  pub bytes : List ℕ
 
 -- what a platform is between two events
 pub record Machine : Type 0 where

@@ -1,11 +1,6 @@
--- Names of capsule files: two are one file where they differ in case alone, and files go by their
--- upper-cased names.
-use Rattle.std.specs.Prelude.{ℕ, Bool, true, false, if◌then◌else◌, nat_lt, List, [], ◌∷◌, bytes_eq}
+-- The order of capsule files: they go by their upper-cased names.
+use Rattle.std.specs.Prelude.{ℕ, Bool, true, false, if◌then◌else◌, nat_lt, List, [], ◌∷◌}
 use Rattle.std.specs.Str.{str_to_ascii_uppercase}
-
--- whether two names name one file
-abbrev pub is_same_name : List ℕ → List ℕ → Bool
-is_same_name a b = bytes_eq (str_to_ascii_uppercase a) (str_to_ascii_uppercase b)
 
 -- whether the first text stands before the second in a dictionary of bytes
 abbrev pub is_before : List ℕ → List ℕ → Bool

@@ -6,13 +6,7 @@ use Rattle.std.specs.Prelude.{option_and_then, unwrap_or, if◌then◌else◌}
 use Rattle.std.specs.List.{enumerate_from, last_or, range_with_len}
 use Rattle.cu_base.specs.declared.device_state.DevState.{DevState}
 use Rattle.cu_base.specs.declared.status.EfiStatus.{EfiStatus}
-use Rattle.reference_machine.specs.declared.attempt_status.TheConstants.{LAST_ATTEMPT_STATUS_SUCCESS}
-use Rattle.reference_machine.specs.declared.attempt_status.TheConstants.{LAST_ATTEMPT_STATUS_ERROR_UNSUCCESSFUL}
-use Rattle.reference_machine.specs.declared.attempt_status.TheConstants.{LAST_ATTEMPT_STATUS_ERROR_INSUFFICIENT_RESOURCES}
-use Rattle.reference_machine.specs.declared.attempt_status.TheConstants.{LAST_ATTEMPT_STATUS_ERROR_INCORRECT_VERSION}
-use Rattle.reference_machine.specs.declared.attempt_status.TheConstants.{LAST_ATTEMPT_STATUS_ERROR_INVALID_FORMAT}
-use Rattle.reference_machine.specs.declared.attempt_status.TheConstants.{LAST_ATTEMPT_STATUS_ERROR_AUTH_ERROR}
-use Rattle.reference_machine.specs.declared.attempt_status.TheConstants.{LAST_ATTEMPT_STATUS_ERROR_UNSATISFIED_DEPENDENCIES}
+use Rattle.reference_machine.specs.declared.attempt_status.TheConstants as attempts
 use Rattle.reference_machine.specs.declared.snapshot.CapsuleResult.{CapsuleResult}
 use Rattle.report_tables.specs.declared.esrt.EsrtEntry.{EsrtEntry}
 use Rattle.report_tables.specs.declared.result.FmpResult.{FmpResult}
@@ -36,13 +30,13 @@ efi_status n = if n == 0 then record { code = 0 } else record { code = 2 ^ 63 + 
 -- ABORTED, OUT_OF_RESOURCES, INCOMPATIBLE_VERSION, LOAD_ERROR, SECURITY_VIOLATION, NOT_FOUND
 abbrev pub efi_numbers : List (ℕ × ℕ)
 efi_numbers =
-    (LAST_ATTEMPT_STATUS_SUCCESS, 0)
-    ∷ (LAST_ATTEMPT_STATUS_ERROR_UNSUCCESSFUL, 21)
-    ∷ (LAST_ATTEMPT_STATUS_ERROR_INSUFFICIENT_RESOURCES, 9)
-    ∷ (LAST_ATTEMPT_STATUS_ERROR_INCORRECT_VERSION, 25)
-    ∷ (LAST_ATTEMPT_STATUS_ERROR_INVALID_FORMAT, 1)
-    ∷ (LAST_ATTEMPT_STATUS_ERROR_AUTH_ERROR, 26)
-    ∷ (LAST_ATTEMPT_STATUS_ERROR_UNSATISFIED_DEPENDENCIES, 14)
+    (attempts.LAST_ATTEMPT_STATUS_SUCCESS, 0)
+    ∷ (attempts.LAST_ATTEMPT_STATUS_ERROR_UNSUCCESSFUL, 21)
+    ∷ (attempts.LAST_ATTEMPT_STATUS_ERROR_INSUFFICIENT_RESOURCES, 9)
+    ∷ (attempts.LAST_ATTEMPT_STATUS_ERROR_INCORRECT_VERSION, 25)
+    ∷ (attempts.LAST_ATTEMPT_STATUS_ERROR_INVALID_FORMAT, 1)
+    ∷ (attempts.LAST_ATTEMPT_STATUS_ERROR_AUTH_ERROR, 26)
+    ∷ (attempts.LAST_ATTEMPT_STATUS_ERROR_UNSATISFIED_DEPENDENCIES, 14)
     ∷ []
 
 -- the number of the EFI_STATUS of a LastAttemptStatus
@@ -51,9 +45,9 @@ efi_number_of status = unwrap_or (option_map (λ p. p.1) (find (λ p. p.0 == sta
 
 -- the LastAttemptStatus of an end (UEFI 2.10, 23.4)
 abbrev pub attempt_status : End → ℕ
-attempt_status Sealed = LAST_ATTEMPT_STATUS_SUCCESS
-attempt_status Kept = LAST_ATTEMPT_STATUS_ERROR_UNSUCCESSFUL
-attempt_status Lost = LAST_ATTEMPT_STATUS_ERROR_UNSUCCESSFUL
+attempt_status Sealed = attempts.LAST_ATTEMPT_STATUS_SUCCESS
+attempt_status Kept = attempts.LAST_ATTEMPT_STATUS_ERROR_UNSUCCESSFUL
+attempt_status Lost = attempts.LAST_ATTEMPT_STATUS_ERROR_UNSUCCESSFUL
 attempt_status (Refused status) = status
 
 -- the number of the CapsuleStatus of a unit that tries nothing: LOAD_ERROR for refused bytes, else

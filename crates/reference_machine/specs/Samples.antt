@@ -2,6 +2,7 @@
 -- what stands in it.
 use Rattle.std.specs.Prelude.{ℕ, Bool, false, ◌==◌, nat_lt, List, [], ◌∷◌, map, codes, find}
 use Rattle.std.specs.Prelude.{unwrap_or, Option, None, Some, option_map}
+use Rattle.bench_model.specs.declared.segment.Segment.{Segment}
 use Rattle.cu_base.specs.declared.guid.Guid.{Guid}
 use Rattle.bench_model.specs.Boards.{BoardValue}
 use Rattle.bench_model.specs.Devices.{DeviceValue}
@@ -137,7 +138,7 @@ is_below (guid ∷ version ∷ rest) versions =
     first_is (x ∷ xs) = x == guid
 
 -- the bytes behind a scatter list: those of the first segment that is laid
-abbrev pub first_segment : List Rattle.reference_machine.specs.Formats.Segment → Option (List ℕ)
+abbrev pub first_segment : List Segment → Option (List ℕ)
 first_segment [] = None
 first_segment (s ∷ ss) = Some s.bytes
 

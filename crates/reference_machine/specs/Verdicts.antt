@@ -9,11 +9,7 @@ use Rattle.cu_base.specs.Refusals.{Row, row, first_refusal}
 use Rattle.cu_base.specs.declared.guid.Guid.{Guid}
 use Rattle.image_parts.specs.Admission.{is_admitted}
 use Rattle.bench_model.specs.Boards.{BoardValue}
-use Rattle.reference_machine.specs.declared.attempt_status.TheConstants.{LAST_ATTEMPT_STATUS_ERROR_INSUFFICIENT_RESOURCES}
-use Rattle.reference_machine.specs.declared.attempt_status.TheConstants.{LAST_ATTEMPT_STATUS_ERROR_INCORRECT_VERSION}
-use Rattle.reference_machine.specs.declared.attempt_status.TheConstants.{LAST_ATTEMPT_STATUS_ERROR_INVALID_FORMAT}
-use Rattle.reference_machine.specs.declared.attempt_status.TheConstants.{LAST_ATTEMPT_STATUS_ERROR_AUTH_ERROR}
-use Rattle.reference_machine.specs.declared.attempt_status.TheConstants.{LAST_ATTEMPT_STATUS_ERROR_UNSATISFIED_DEPENDENCIES}
+use Rattle.reference_machine.specs.declared.attempt_status.TheConstants as attempts
 use Rattle.reference_machine.specs.Formats.{Parts, Formats}
 use Rattle.reference_machine.specs.Deliveries.{BootUnit}
 use Rattle.reference_machine.specs.Spent.{floor_of, version_of, versions_of, dependency_of}
@@ -66,15 +62,15 @@ check passes status = row (not passes) status
 -- the checks of a try whose image has these parts, in their order
 abbrev pub checks : Formats → Machine → BootUnit → Option Parts → List (Row ℕ)
 checks f m u parts =
-    check (is_split parts) LAST_ATTEMPT_STATUS_ERROR_INVALID_FORMAT
-    ∷ check (is_admitted m.board.digests u.image) LAST_ATTEMPT_STATUS_ERROR_AUTH_ERROR
+    check (is_split parts) attempts.LAST_ATTEMPT_STATUS_ERROR_INVALID_FORMAT
+    ∷ check (is_admitted m.board.digests u.image) attempts.LAST_ATTEMPT_STATUS_ERROR_AUTH_ERROR
     ∷ check
     (nat_le (length p.payload) (capacity_of m.board d))
-    LAST_ATTEMPT_STATUS_ERROR_INSUFFICIENT_RESOURCES
+    attempts.LAST_ATTEMPT_STATUS_ERROR_INSUFFICIENT_RESOURCES
     ∷ check
     (nat_le (floor_of m.board m.list d) p.version)
-    LAST_ATTEMPT_STATUS_ERROR_INCORRECT_VERSION
-    ∷ check (keeps_dependencies f m d p) LAST_ATTEMPT_STATUS_ERROR_UNSATISFIED_DEPENDENCIES
+    attempts.LAST_ATTEMPT_STATUS_ERROR_INCORRECT_VERSION
+    ∷ check (keeps_dependencies f m d p) attempts.LAST_ATTEMPT_STATUS_ERROR_UNSATISFIED_DEPENDENCIES
     ∷ []
   where
     p : Parts

@@ -7,7 +7,8 @@ use Rattle.std.specs.List.{list_any, list_all}
 use Rattle.bench_model.specs.Boards.{BoardValue}
 use Rattle.bench_model.specs.declared.outside_limits.TheConstants.{MAX_FILES}
 use Rattle.reference_machine.specs.Events.{Outcome}
-use Rattle.reference_machine.specs.Machine.{File, first_moment}
+use Rattle.bench_model.specs.Files.{File}
+use Rattle.reference_machine.specs.Machine.{first_moment}
 use Rattle.reset_play.specs.Plays.{is_thin_on}
 use Rattle.reference_machine.specs.Spent.{Element}
 use Rattle.reference_machine.specs.TraceValues.{EntryValue}

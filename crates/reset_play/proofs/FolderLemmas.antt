@@ -7,8 +7,8 @@ use Rattle.std.proofs.lemmas.List.Sums.{prefix_len-le-length}
 use Rattle.std.specs.List.{position_or_len, position}
 use Rattle.std.proofs.lemmas.List.Sums.{sum_by_more}
 use Rattle.reference_machine.specs.Events.{bytes_beside}
-use Rattle.reference_machine.specs.Machine.{File}
-use Rattle.reference_machine.specs.Names.{is_same_name}
+use Rattle.bench_model.specs.Files.{File}
+use Rattle.bench_model.specs.Files.{is_same_name}
 use Rattle.reference_machine.specs.Order.{inserted, in_order}
 
 pub place_at_most : {X : Type 0} (p : X → Bool) (xs : List X) → position_or_len p xs ≤ length xs

@@ -6,7 +6,8 @@ use Rattle.std.proofs.lemmas.List.Sums.{length-filter}
 use Rattle.std.specs.List.{list_all}
 use Rattle.bench_model.specs.Boards.{BoardValue}
 use Rattle.reference_machine.specs.declared.unit.UnitLine.{UnitLine}
-use Rattle.reference_machine.specs.Machine.{File, Machine, first_moment}
+use Rattle.bench_model.specs.Files.{File}
+use Rattle.reference_machine.specs.Machine.{Machine, first_moment}
 use Rattle.cu_base.specs.declared.time.EfiTime.{EfiTime}
 use Rattle.reference_machine.specs.declared.unit.End.{End}
 use Rattle.reference_machine.specs.declared.unit.End.TheVariants.{Sealed}

@@ -11,7 +11,8 @@ use Rattle.reference_machine.specs.Boots.{file_tasks, file_delivery}
 use Rattle.reference_machine.specs.Boots.BootTask.{Does, Removes}
 use Rattle.reference_machine.specs.Deliveries.{BootUnit, units, targets, is_target}
 use Rattle.reference_machine.specs.Formats.{ItemHead}
-use Rattle.reference_machine.specs.Machine.{File, Machine}
+use Rattle.bench_model.specs.Files.{File}
+use Rattle.reference_machine.specs.Machine.{Machine}
 use Rattle.reference_machine.specs.Order.{in_order, inserted}
 use Rattle.reset_play.specs.Plays.{has_one_device, is_thin_on}
 use Rattle.reference_machine.specs.Spent.{spent}

@@ -17,7 +17,8 @@ use Rattle.reference_machine.specs.Boots.{with_claim, with_element, with_lines, 
 use Rattle.reference_machine.specs.Boots.BootTask.{Settles, Does, Clears}
 use Rattle.reference_machine.specs.Deliveries.{fmp_guid}
 use Rattle.reference_machine.specs.Formats.{Item, Parts}
-use Rattle.reference_machine.specs.Machine.{File, Machine}
+use Rattle.bench_model.specs.Files.{File}
+use Rattle.reference_machine.specs.Machine.{Machine}
 use Rattle.reference_machine.specs.Names.{is_taken_before}
 use Rattle.reference_machine.specs.Order.{in_order}
 use Rattle.reset_play.specs.Plays.{has_one_device, is_thin_on}

@@ -6,6 +6,7 @@ use Rattle.std.specs.Prelude.{◌∷◌, length, drop, bytes_eq, Option, None, S
 use Rattle.cu_base.specs.Fields.{field, number_at}
 use Rattle.reference_machine.specs.Deliveries.{fmp_guid}
 use Rattle.reference_machine.specs.Formats.{Item, Capsule, Parts, Formats}
+use Rattle.scatter_list.specs.Coalesced.{coalesced_of}
 
 -- the capsule header: the GUID at 0, HeaderSize at 16, CapsuleImageSize at 24
 abbrev pub has_thin_header : List ℕ → Bool
@@ -74,5 +75,5 @@ thin = record {
   capsules = thin_capsules;
   parts = plain_parts;
   is_satisfied = λ section versions. true;
-  coalesced = λ memory address. None;
+  coalesced = coalesced_of;
 }

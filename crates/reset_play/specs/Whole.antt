@@ -13,7 +13,8 @@ use Rattle.reference_machine.specs.Boots.{BootTask, BootState, after, next}
 use Rattle.reference_machine.specs.Boots.BootTask.{Settles, Does, Removes}
 use Rattle.reference_machine.specs.Deliveries.{BootUnit, fmp_guid}
 use Rattle.reference_machine.specs.Formats.{Formats, Item}
-use Rattle.reference_machine.specs.Machine.{File, Machine}
+use Rattle.bench_model.specs.Files.{File}
+use Rattle.reference_machine.specs.Machine.{Machine}
 use Rattle.reset_play.specs.Plays.{has_one_device, is_thin_on}
 use Rattle.reference_machine.specs.Report.{report_value}
 use Rattle.reference_machine.specs.Spent.{Element, is_open, is_closed, spent}

@@ -20,7 +20,7 @@ pub no_blocks : (memory : List Segment) (root : ℕ) → blocks memory root 0 �
 unfolding blocks
 no_blocks memory root = refl
 
-blocks_step : (memory : List Segment) (root index : ℕ)
+pub blocks_step : (memory : List Segment) (root index : ℕ)
     → blocks memory root (index + 1)
     ≡ blocks memory root index ++ block_of memory (address memory root index)
 unfolding blocks
@@ -41,7 +41,7 @@ pub none_lacking : (memory : List Segment) (root : ℕ) → first_lacking memory
 unfolding first_lacking
 none_lacking memory root = refl
 
-lacking_step : (memory : List Segment) (root index : ℕ)
+pub lacking_step : (memory : List Segment) (root index : ℕ)
     → first_lacking memory root (index + 1)
     ≡ option_or (first_lacking memory root index) (lacking_block memory (address memory root index))
 unfolding first_lacking

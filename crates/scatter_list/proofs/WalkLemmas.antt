@@ -237,7 +237,7 @@ pub total_none : (memory : List Segment) (root : ℕ) → total_of memory root 0
 unfolding total_of
 total_none memory root = refl
 
-total_step : (memory : List Segment) (root index : ℕ)
+pub total_step : (memory : List Segment) (root index : ℕ)
     → total_of memory root (index + 1)
     ≡ total_of memory root index + length_at memory (address memory root index)
 unfolding total_of

@@ -1,15 +1,17 @@
 -- The bytes of a scatter list (UEFI 2.10, 8.5.3): its data blocks in order.
 use Rattle.std.specs.Prelude.{◌≡◌, ℕ, zero, suc, ◌+◌, ◌-◌, ◌^◌, ◌≤◌, nat_lt}
 use Rattle.std.specs.Prelude.{Bool, true, false, List, [], ◌++◌, Option, None, Some}
-use Rattle.std.specs.Prelude.{option_map, if◌then◌else◌}
+use Rattle.std.specs.Prelude.{Result, Ok, Err, is_some, option_map, if◌then◌else◌}
 use Rattle.std.specs.Option.{option_or}
+use Rattle.cu_base.specs.declared.limits.TheConstants.{MAX_CAPSULE_BYTES}
 use Rattle.bench_model.specs.declared.segment.Segment.{Segment}
 use Rattle.bench_model.specs.Memory.{IsLacking}
 use Rattle.scatter_list.specs.Reads.{is_whole, bytes_from}
-use Rattle.scatter_list.specs.Walk.{length_at, pointer_at, address}
+use Rattle.scatter_list.specs.Walk.{length_at, pointer_at, address, walk}
 use Rattle.scatter_list.specs.declared.faults.CoalesceFault.{CoalesceFault}
 use Rattle.scatter_list.specs.declared.faults.CoalesceFault.TheVariants.{TooMuch, BlockUnreadable}
 use Rattle.scatter_list.specs.declared.faults.CoalesceFault.TheVariants.{Memory}
+use Rattle.scatter_list.specs.declared.faults.ShapeFault.{ShapeFault}
 use Rattle.scatter_list.specs.declared.told.Shape.{Shape}
 
 -- the data block of the descriptor at an address; a descriptor of Length 0 has no bytes
@@ -49,6 +51,22 @@ abbrev pub told_fault : CoalesceFault → Option CoalesceFault
 told_fault TooMuch = Some TooMuch
 told_fault (BlockUnreadable descriptor) = Some (BlockUnreadable descriptor)
 told_fault Memory = None
+
+-- the bytes of the list of this shape, where they are not refused
+abbrev pub joined : List Segment → ℕ → Shape → Option (List ℕ)
+joined memory limit shape =
+    if is_some (coalesce_refusal memory shape limit) then None else Some (coalesced memory shape)
+
+-- the bytes behind an outcome of the walk
+abbrev pub joined_by : List Segment → ℕ → Option (Result Shape ShapeFault) → Option (List ℕ)
+joined_by memory limit (Some (Ok shape)) = joined memory limit shape
+joined_by memory limit (Some (Err fault)) = None
+joined_by memory limit None = None
+
+-- the bytes of the list from an address on: None where the list or a data block is refused, or
+-- where they are more than a capsule file may have
+abbrev pub coalesced_of : List Segment → ℕ → Option (List ℕ)
+coalesced_of memory root = joined_by memory MAX_CAPSULE_BYTES (walk memory root)
 
 -- a piece of so many bytes is appended where it is all there, and else nothing is
 abbrev pub IsPiece : List Segment → ℕ → ℕ → List ℕ → List ℕ → Bool → Type 0

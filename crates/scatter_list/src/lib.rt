@@ -8,15 +8,16 @@
 mod blocks;
 mod descriptor;
 mod faults;
+pub mod laws;
+mod lay;
 mod limits;
 mod repeats;
-#[cfg(test)]
-mod tests;
 mod told;
 mod walk;
 
 pub use blocks::coalesce;
 pub use faults::{CoalesceFault, ShapeFault};
+pub use lay::lay_list;
 pub use limits::{DESCRIPTOR_BYTES, MAX_DESCRIPTORS, MAX_STEPS};
 pub use told::Shape;
 pub use walk::shape;

@@ -21,7 +21,7 @@ impl SlotForm for Tailed {
     ghost use Rattle.std.specs.Prelude.{◌+◌};
     ghost use Rattle.std.proofs.Math.Nat.{add-le-add, le-add_left};
     ghost use Rattle.bench_model.specs.declared.outside_limits.TheConstants.{SLOT_LEAD};
-    ghost use Rattle.fmp_slot.specs.Writers.{writing_of, places_of};
+    ghost use Rattle.fmp_slot.specs.Writers.{writing_of, places_of, writes_at};
     ghost use Rattle.fmp_slot.specs.Writing.{payload_so_far};
     ghost use Rattle.slot_forms.specs.declared.tailed.TheConstants.{TAIL};
     ghost use Rattle.slot_forms.specs.Tailed.{tailed_slot, tailed_bytes, IsBeforeTail};
@@ -35,6 +35,8 @@ impl SlotForm for Tailed {
     ghost writing = { writing_of };
 
     ghost places = { places_of };
+
+    ghost may_write = { writes_at };
 
     ghost taken = { λ w bytes. payload_so_far w.taken bytes };
 
@@ -81,13 +83,11 @@ impl SlotForm for Tailed {
         writer: &mut SlotWriter,
         bytes: &[u8],
     ) -> Result<(), SlotFault> {
-        OneBank.piece(flash, writer, bytes)?;
-        Ok(())
+        OneBank.piece(flash, writer, bytes)
     }
 
     fn seal<F: Flash>(&self, flash: &mut F, writer: SlotWriter) -> Result<(), SlotFault> {
-        OneBank.seal(flash, writer)?;
-        Ok(())
+        OneBank.seal(flash, writer)
     }
 
     ghost grows = { λ capacity some. add-le-add (le-add_left (SLOT_LEAD + TAIL) 0) some };

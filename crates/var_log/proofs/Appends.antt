@@ -1,6 +1,7 @@
 -- What an append leaves of the store in each image.
 use Rattle.std.proofs.Common.{◌≡◌, ◌≢◌, inl, inr, ℕ, ◌+◌, ◌-◌, ◌<◌, ◌≤◌, List, [], ◌∷◌, ◌++◌}
-use Rattle.std.proofs.Common.{length, get_or, take, drop, refl, sym, ap, ◌∙◌, subst, arith, Option, Some}
+use Rattle.std.proofs.Common.{length, get_or, take, drop, refl, sym, ap, ◌∙◌, subst, arith, Option}
+use Rattle.std.proofs.Common.{Some}
 use Rattle.std.proofs.Common.{None, Bool, true, false, not, cond, nat_eq, unwrap_or}
 use Rattle.std.proofs.Common.{append_assoc, length-append}
 use Rattle.std.proofs.lemmas.Bool.{cases_eq}
@@ -12,12 +13,13 @@ use Rattle.bench_model.specs.Bench.{BenchValue, ChangesRegion, IsRegionStable, r
 use Rattle.bench_model.proofs.ImageLemmas.{agrees_front, image_of_stable}
 use Rattle.var_log.specs.declared.change.Change.{Change}
 use Rattle.var_log.specs.declared.limits.TheConstants.{OPEN_GATE, CLOSED_GATE}
-use Rattle.var_log.specs.Records.{behind_gate, record_bytes, record_size, body_of, IsWritable, record_with}
+use Rattle.var_log.specs.Records.{behind_gate, record_bytes, record_size, body_of, IsWritable}
+use Rattle.var_log.specs.Records.{record_with}
 use Rattle.var_log.specs.Records.{is_next, RecordValue, Entry}
 use Rattle.var_log.specs.Banks.{entries_of, end_of, last_of, log_bank, store_of}
 use Rattle.var_log.specs.Banks.{taken}
 use Rattle.var_log.specs.Moves.{IsGated, IsOpening, IsOpened}
-use Rattle.var_log.specs.Logs.{LogValue, IsLog, StandsOn, StandsWhereTold, free_of, log_after}
+use Rattle.var_log.specs.Logs.{LogValue, IsLog, LiesWhereTold, StandsOn, free_of, log_after}
 use Rattle.var_log.specs.Logs.{HasBatch, HasBatchOrNot, store_as_read, store_with}
 use Rattle.var_log.proofs.BankLemmas.{SameHead, SameBank, Grown, same_bank, kept, grown}
 use Rattle.var_log.proofs.BankLemmas.{entry_with, same_store, same_choice, store_at, grown_store_in}
@@ -81,14 +83,14 @@ module _ (log : LogValue) (number : ℕ) (cs : List Change) (old : BenchValue)
   room : (log.closed ≡ true) × (record_size 2 (length (body_of cs)) ≤ log.size - log.at - 1)
   room = closed_is log.closed _ _ (omega arith) under.fits
 
-  shut_before : (w : StandsWhereTold log old) → get_or bank log.at 0 ≢ OPEN_GATE
+  shut_before : (w : LiesWhereTold log old) → get_or bank log.at 0 ≢ OPEN_GATE
   shut_before w = differs _ _ (not_open _ (sym room.0 ∙ w.is.closed))
 
-  inside : (w : StandsWhereTold log old) → end_of bank < length bank
-  inside w = omega (arith, w.is.ends, under.stands.size log.bank under.place.bank, under.place.within)
+  inside : (w : LiesWhereTold log old) → end_of bank < length bank
+  inside w = omega (arith, w.is.ends, under.stands.lies.size log.bank under.place.bank, under.place.within)
 
   -- the front of a bank in which bytes behind the gate changed
-  still : (w : StandsWhereTold log old) (x : List ℕ) → AgreesOutside (log.at + 1) (length bytes) bank x
+  still : (w : LiesWhereTold log old) (x : List ℕ) → AgreesOutside (log.at + 1) (length bytes) bank x
       → SameBank bank x
   still w x agrees =
       let front = agrees_front (log.at + 1) (length bytes) bank x agrees in
@@ -101,7 +103,7 @@ module _ (log : LogValue) (number : ℕ) (cs : List Change) (old : BenchValue)
       ∙ ap (λ (k : ℕ). get_or x k 0) (sym w.is.ends) ∙ opens))
 
   -- the same where the gate is no open one
-  still_shut : (w : StandsWhereTold log old) (x : List ℕ) → IsGated log.at bytes bank x
+  still_shut : (w : LiesWhereTold log old) (x : List ℕ) → IsGated log.at bytes bank x
       → get_or x log.at 0 ≢ OPEN_GATE → SameBank bank x
   still_shut w x gated shut =
       let front = agrees_front log.at (1 + length bytes) bank x gated.outside in
@@ -111,9 +113,10 @@ module _ (log : LogValue) (number : ℕ) (cs : List Change) (old : BenchValue)
       }) (inside w) (λ opens. shut (ap (λ (k : ℕ). get_or x k 0) (sym w.is.ends) ∙ opens))
 
   -- and where it is open
-  more : (w : StandsWhereTold log old) (x : List ℕ) → IsGated log.at bytes bank x
+  more : (told : old.contents.told ≡ true) (w : LiesWhereTold log old) (x : List ℕ)
+      → IsGated log.at bytes bank x
       → get_or x log.at 0 ≡ OPEN_GATE → Grown (entry_with number cs) bank x
-  more w x gated opens =
+  more told w x gated opens =
       let front = agrees_front log.at (1 + length bytes) bank x gated.outside in
       let n = length bytes in
       let rest : List ℕ = drop n (drop (log.at + 1) x) in
@@ -127,7 +130,7 @@ module _ (log : LogValue) (number : ℕ) (cs : List Change) (old : BenchValue)
       grown bank x number cs rest (record {
         long = gated.outside.long;
         same = subst (λ (k : ℕ). take k x ≡ take k bank) (sym w.is.ends) front;
-      }) (inside w) w.is.format (ap (λ (k : ℕ). drop k x) w.is.ends ∙ here)
+      }) (inside w) (under.stands.format told) (ap (λ (k : ℕ). drop k x) w.is.ends ∙ here)
       (omega (arith, under.is.small)) under.is.low (omega (arith, under.is.few)) under.is.each
       (next_is _ number (under.next ∙ ap (λ (k : ℕ). k + 1) (sym w.is.seq)))
 
@@ -144,7 +147,7 @@ module _ (log : LogValue) (number : ℕ) (cs : List Change) (old : BenchValue)
       ] in
       same_store old.contents.bytes banks (each 0 (omega arith)) (each 1 (omega arith))
 
-  same_bank_is_log : (w : StandsWhereTold log old) (banks : ℕ → List ℕ) → SameHead bank (banks log.bank)
+  same_bank_is_log : (w : LiesWhereTold log old) (banks : ℕ → List ℕ) → SameHead bank (banks log.bank)
       → ((j : ℕ) → j < 2 → j ≢ log.bank → banks j ≡ old.contents.bytes j)
       → log_bank banks ≡ Some log.bank
   same_bank_is_log w banks same others =
@@ -155,7 +158,7 @@ module _ (log : LogValue) (number : ℕ) (cs : List Change) (old : BenchValue)
       ] in
       same_choice old.contents.bytes banks (each 0 (omega arith)) (each 1 (omega arith)) ∙ w.is.bank
 
-  with_more : (w : StandsWhereTold log old) (banks : ℕ → List ℕ)
+  with_more : (w : LiesWhereTold log old) (banks : ℕ → List ℕ)
       → Grown (entry_with number cs) bank (banks log.bank)
       → ((j : ℕ) → j < 2 → j ≢ log.bank → banks j ≡ old.contents.bytes j)
       → store_of banks ≡ store_with cs (store_as_read old)
@@ -172,14 +175,15 @@ module _ (log : LogValue) (number : ℕ) (cs : List Change) (old : BenchValue)
       → IsOpening log.at bytes bank image)
       → HasBatchOrNot cs old new
   batch_or_not new frame images = λ image is.
-      let w = under.stands.told (sym frame.told ∙ (is 0).told) in
+      let was : old.contents.told ≡ true = sym frame.told ∙ (is 0).told in
+      let w = under.stands.lies.told was in
       let others : (j : ℕ) → j < 2 → j ≢ log.bank → image j ≡ old.contents.bytes j =
       λ j low ne. image_elsewhere log.bank old new frame j ne (stable_at old j low w.first w.second)
       (image j) (is j) in
       elim (images (stable_at old log.bank under.place.bank w.first w.second) (image log.bank) (is log.bank)) [
         | inl agrees ↦ inl (others_same image (still w (image log.bank) agrees) others)
         | inr gated ↦ elim (cases_eq (get_or (image log.bank) log.at 0) OPEN_GATE) [
-          | inl opens ↦ inr (with_more w image (more w (image log.bank) gated opens) others)
+          | inl opens ↦ inr (with_more w image (more was w (image log.bank) gated opens) others)
           | inr shut ↦ inl (others_same image (still_shut w (image log.bank) gated shut) others)
         ]
       ]
@@ -189,7 +193,8 @@ module _ (log : LogValue) (number : ℕ) (cs : List Change) (old : BenchValue)
       → HasBatch cs old new
   has_batch new frame stable done = λ image is.
       let told : new.contents.told ≡ true = (is 0).told in
-      let w = under.stands.told (sym frame.told ∙ told) in
+      let was : old.contents.told ≡ true = sym frame.told ∙ told in
+      let w = under.stands.lies.told was in
       let others : (j : ℕ) → j < 2 → j ≢ log.bank → image j ≡ old.contents.bytes j =
       λ j low ne. image_elsewhere log.bank old new frame j ne (stable_at old j low w.first w.second)
       (image j) (is j) in
@@ -198,7 +203,7 @@ module _ (log : LogValue) (number : ℕ) (cs : List Change) (old : BenchValue)
       let opened = done told in
       with_more w image
       (subst (λ (l : List ℕ). Grown (entry_with number cs) bank l) (sym here)
-      (more w (new.contents.bytes log.bank) opened.gated opened.gate)) others
+      (more was w (new.contents.bytes log.bank) opened.gated opened.gate)) others
 
   -- ---- the log afterwards
 
@@ -219,59 +224,72 @@ module _ (log : LogValue) (number : ℕ) (cs : List Change) (old : BenchValue)
       ∙ ap (λ (l : List ℕ). get_or l (length bg) 0) gated.behind
       ∙ get_or-append_seam bg CLOSED_GATE [] 0
 
+  lies_after : (new : BenchValue) (n : ℕ) → n ≡ record_size 2 (length (body_of cs))
+      → ChangesRegion log.bank old new → IsRegionStable log.bank new
+      → (new.contents.told ≡ true → IsOpened log.at bytes bank (new.contents.bytes log.bank))
+      → new.contents.told ≡ true → LiesWhereTold (log_after log n) new
+  lies_after new n is frame stable done told =
+      let was : old.contents.told ≡ true = sym frame.told ∙ told in
+      let w = under.stands.lies.told was in
+      let x = new.contents.bytes log.bank in
+      let opened = done told in
+      let grows = more was w x opened.gated opened.gate in
+      let es = entries_of bank in
+      let others : (j : ℕ) → j < 2 → j ≢ log.bank → new.contents.bytes j ≡ old.contents.bytes j =
+      λ j low ne. frame.bytes j ne in
+      let each : (j : ℕ) → j < 2 → IsRegionStable j new =
+      λ j low. elim (cases_eq j log.bank) [
+        | inl e ↦ subst (λ (k : ℕ). IsRegionStable k new) (sym e) stable
+        | inr ne ↦ record {
+          clean = λ m. ap (λ (f : ℕ → Bool). f m) (frame.dirty j ne)
+              ∙ (stable_at old j low w.first w.second).clean m;
+        }
+      ] in
+      let here : log.at + n ≡ log.at + record_size 2 (length (body_of cs)) = omega (arith, is) in
+      let low_bank : log.bank < 2 = under.place.bank in
+      let other : 1 - log.bank ≢ log.bank = λ e. absurd (omega arith) in
+      record {
+        first = each 0 (omega arith);
+        second = each 1 (omega arith);
+        is = record {
+          bank = same_bank_is_log w new.contents.bytes grows.head others;
+          seq = ap (λ (l : List Entry). unwrap_or (last_of None l) 0) grows.entries
+              ∙ ap (λ (o : Option ℕ). unwrap_or o 0) (last_grown es (entry_with number cs))
+              ∙ under.next;
+          generation = grows.head.generation ∙ w.is.generation;
+          ends = omega (
+            arith,
+            is,
+            w.is.ends,
+            ap taken grows.entries,
+            taken_grown es (entry_with number cs),
+          );
+          closed = ap (λ (b : ℕ). not (nat_eq b OPEN_GATE))
+              (sym (ap (λ (k : ℕ). get_or x k 0) here ∙ last_byte x opened.gated));
+          other = w.is.other ∙ ap (λ (l : List ℕ). nat_eq (get_or l 0 0) OPEN_GATE)
+              (sym (frame.bytes (1 - log.bank) other));
+        };
+      }
+
   pub stands_after : (new : BenchValue) (n : ℕ) → n ≡ record_size 2 (length (body_of cs))
       → ChangesRegion log.bank old new → IsRegionStable log.bank new
       → length (new.contents.bytes log.bank) ≡ length bank
       → (new.contents.told ≡ true → IsOpened log.at bytes bank (new.contents.bytes log.bank))
       → StandsOn (log_after log n) new
   stands_after new n is frame stable long done = record {
-    size = λ k low. elim (cases_eq k log.bank) [
-      | inl e ↦ ap (λ (j : ℕ). length (new.contents.bytes j)) e ∙ long
-          ∙ under.stands.size log.bank under.place.bank
-      | inr ne ↦ ap length (frame.bytes k ne) ∙ under.stands.size k low
-    ];
-    told = λ told.
-        let w = under.stands.told (sym frame.told ∙ told) in
-        let x = new.contents.bytes log.bank in
+    lies = record {
+      size = λ k low. elim (cases_eq k log.bank) [
+        | inl e ↦ ap (λ (j : ℕ). length (new.contents.bytes j)) e ∙ long
+            ∙ under.stands.lies.size log.bank under.place.bank
+        | inr ne ↦ ap length (frame.bytes k ne) ∙ under.stands.lies.size k low
+      ];
+      told = lies_after new n is frame stable done;
+    };
+    format = λ told.
+        let was : old.contents.told ≡ true = sym frame.told ∙ told in
         let opened = done told in
-        let grows = more w x opened.gated opened.gate in
-        let es = entries_of bank in
-        let others : (j : ℕ) → j < 2 → j ≢ log.bank → new.contents.bytes j ≡ old.contents.bytes j =
-        λ j low ne. frame.bytes j ne in
-        let each : (j : ℕ) → j < 2 → IsRegionStable j new =
-        λ j low. elim (cases_eq j log.bank) [
-          | inl e ↦ subst (λ (k : ℕ). IsRegionStable k new) (sym e) stable
-          | inr ne ↦ record {
-            clean = λ m. ap (λ (f : ℕ → Bool). f m) (frame.dirty j ne)
-                ∙ (stable_at old j low w.first w.second).clean m;
-          }
-        ] in
-        let here : log.at + n ≡ log.at + record_size 2 (length (body_of cs)) = omega (arith, is) in
-        let low_bank : log.bank < 2 = under.place.bank in
-        let other : 1 - log.bank ≢ log.bank = λ e. absurd (omega arith) in
-        record {
-          first = each 0 (omega arith);
-          second = each 1 (omega arith);
-          is = record {
-            bank = same_bank_is_log w new.contents.bytes grows.head others;
-            format = grows.head.format ∙ w.is.format;
-            seq = ap (λ (l : List Entry). unwrap_or (last_of None l) 0) grows.entries
-                ∙ ap (λ (o : Option ℕ). unwrap_or o 0) (last_grown es (entry_with number cs))
-                ∙ under.next;
-            generation = grows.head.generation ∙ w.is.generation;
-            ends = omega (
-              arith,
-              is,
-              w.is.ends,
-              ap taken grows.entries,
-              taken_grown es (entry_with number cs),
-            );
-            closed = ap (λ (b : ℕ). not (nat_eq b OPEN_GATE))
-                (sym (ap (λ (k : ℕ). get_or x k 0) here ∙ last_byte x opened.gated));
-            other = w.is.other ∙ ap (λ (l : List ℕ). nat_eq (get_or l 0 0) OPEN_GATE)
-                (sym (frame.bytes (1 - log.bank) other));
-          };
-        };
+        (more was (under.stands.lies.told was) (new.contents.bytes log.bank) opened.gated opened.gate).head.format
+        ∙ under.stands.format was;
   }
 
 -- the record of an entry that was given its number

@@ -12,9 +12,11 @@ use Rattle.var_log.specs.declared.change.Change.{Change}
 use Rattle.var_log.specs.declared.limits.TheConstants.{OPEN_GATE, CLOSED_GATE}
 use Rattle.var_log.specs.Changes.{is_change, after, no_variables, changed, Variables}
 use Rattle.var_log.specs.Records.{Entry, entries_in, record_bytes, record_size, body_of, is_next}
-use Rattle.var_log.specs.Banks.{last_of, taken, entries_of, end_of, format_of, generation_of, is_open}
+use Rattle.var_log.specs.Banks.{last_of, taken, entries_of, end_of, format_of, generation_of}
+use Rattle.var_log.specs.Banks.{is_open}
 use Rattle.var_log.specs.Banks.{choice, log_bank, store_in, store_of, StoreValue, with_batch}
-use Rattle.var_log.proofs.Splits.{splits, sized, closed_end, one_more, same_field, same_byte, same_drop}
+use Rattle.var_log.proofs.Splits.{splits, sized, closed_end, one_more, same_field, same_byte}
+use Rattle.var_log.proofs.Splits.{same_drop}
 
 -- two banks have one front
 pub record SameFront (n : ℕ) (old new : List ℕ) : Type 0 where

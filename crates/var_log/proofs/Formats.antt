@@ -10,7 +10,8 @@ use Rattle.bench_model.specs.Bench.{BenchValue, ChangesRegion, IsRegionStable, r
 use Rattle.bench_model.proofs.ImageLemmas.{agrees_back, image_of_stable}
 use Rattle.var_log.specs.declared.limits.TheConstants.{OPEN_GATE, CLOSED_GATE}
 use Rattle.var_log.specs.Records.{Entry}
-use Rattle.var_log.specs.Banks.{is_open, is_headed, store_of, store_in, entries_of, empty_store, empty_bank}
+use Rattle.var_log.specs.Banks.{is_open, is_headed, store_of, store_in, entries_of, empty_store}
+use Rattle.var_log.specs.Banks.{empty_bank}
 use Rattle.var_log.specs.Banks.{log_bank, generation_of}
 use Rattle.var_log.specs.Moves.{IsGated, IsOpening, IsOpened, IsShut}
 use Rattle.var_log.specs.Logs.{IsUnheaded, IsEmptyOrNone, IsEmptyLog}

@@ -2,6 +2,13 @@ pub mod Appends
 pub mod BankLemmas
 pub mod Formats
 pub mod Gates
+pub mod LimitLemmas
+pub mod OpenLemmas
+pub mod PieceLemmas
+pub mod ReadLemmas
 pub mod Reclaims
+pub mod ScanLemmas
+pub mod SettleLemmas
+pub mod Sizes
 pub mod Spelled
 pub mod Splits

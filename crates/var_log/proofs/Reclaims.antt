@@ -1,11 +1,14 @@
 -- What a reclaim leaves of the store in each image.
 use Rattle.std.proofs.Common.{◌≡◌, ◌≢◌, inl, inr, ℕ, ◌+◌, ◌-◌, ◌<◌, ◌≤◌, ◌^◌, List, []}
-use Rattle.std.proofs.Common.{◌∷◌, ◌++◌, length, get_or, take, drop, refl, sym, ap, ◌∙◌, subst, arith}
-use Rattle.std.proofs.Common.{Option, Some, None, Bool, true, false, not, cond, ◌&&◌, All, IsTrue, nat_eq}
+use Rattle.std.proofs.Common.{◌∷◌, ◌++◌, length, get_or, take, drop, refl, sym, ap, ◌∙◌, subst}
+use Rattle.std.proofs.Common.{arith}
+use Rattle.std.proofs.Common.{Option, Some, None, Bool, true, false, not, cond, ◌&&◌, All, IsTrue}
+use Rattle.std.proofs.Common.{nat_eq}
 use Rattle.std.proofs.Common.{nat_lt, unwrap_or, append_assoc, option_map, length-append}
 use Rattle.std.proofs.lemmas.Bool.{cases_eq, lt-ltb}
 use Rattle.std.proofs.lemmas.Bool.Decides.{nat_tests}
-use Rattle.std.proofs.lemmas.List.{drop_more, take-append-drop, get_or-drop, get_or-take, append-nil, drop-drop}
+use Rattle.std.proofs.lemmas.List.{drop_more, take-append-drop, get_or-drop, get_or-take}
+use Rattle.std.proofs.lemmas.List.{append-nil, drop-drop}
 use Rattle.std.proofs.Math.Seq.{get_or-append_seam}
 use Rattle.cu_base.specs.Fields.{number}
 use Rattle.cu_base.proofs.Fields.{number-bytes_of}
@@ -14,14 +17,17 @@ use Rattle.bench_model.specs.Bench.{BenchValue, ChangesRegion, IsRegionStable, r
 use Rattle.bench_model.proofs.ImageLemmas.{agrees_back, image_of_stable}
 use Rattle.var_log.specs.declared.change.Change.{Change}
 use Rattle.var_log.specs.declared.limits.TheConstants.{OPEN_GATE, CLOSED_GATE}
-use Rattle.var_log.specs.Changes.{is_change, after, no_variables, Variables}
+use Rattle.var_log.specs.Changes.{has_sizes, is_change, after, no_variables, Variables}
 use Rattle.var_log.specs.Records.{Entry, body_of, record_size, record_bytes, entries_in}
-use Rattle.var_log.specs.Banks.{is_open, is_headed, store_of, store_in, entries_of, reclaimed, StoreValue}
+use Rattle.var_log.specs.Banks.{is_open, is_headed, store_of, store_in, entries_of, reclaimed}
+use Rattle.var_log.specs.Banks.{StoreValue}
 use Rattle.var_log.specs.Banks.{log_bank, generation_of, reclaimed_store, choice, taken, last_of}
 use Rattle.var_log.specs.Banks.{format_of, behind_bank_gate}
 use Rattle.var_log.specs.Moves.{IsGated, IsShut, IsReclaiming, Reclaims}
-use Rattle.var_log.specs.Logs.{LogValue, IsLog, StandsOn, StandsWhereTold, IsLive, KeepsVariables}
+use Rattle.var_log.specs.Logs.{LogValue, IsLog, LiesOn, LiesWhereTold, StandsOn, IsLive}
+use Rattle.var_log.specs.Logs.{KeepsVariables}
 use Rattle.var_log.specs.Logs.{log_reclaimed, store_as_read}
+use Rattle.var_log.proofs.Sizes.{few_changes}
 use Rattle.var_log.proofs.Splits.{one_more}
 use Rattle.var_log.proofs.BankLemmas.{store_at, made_of, store_is, entry_with, SameHead, same_bank}
 use Rattle.var_log.proofs.BankLemmas.{same_choice, same_store}
@@ -169,7 +175,7 @@ some_same a b e = cc
 
 pub record UnderReclaim (log : LogValue) (live : List Change) (old : BenchValue) : Type 0 where
   pub place : IsLog log
-  pub stands : StandsOn log old
+  pub stands : LiesOn log old
   pub lives : IsLive live old
   pub low : log.generation + 1 < 2 ^ 64
   pub low_seq : log.seq < 2 ^ 64
@@ -202,24 +208,24 @@ module _ (log : LogValue) (live : List Change) (old : BenchValue) (under : Under
   back = let low = low_bank in omega arith
 
   -- the store as read
-  old_store : (w : StandsWhereTold log old) → store_as_read old ≡ Some (store_in (old.contents.bytes log.bank))
+  old_store : (w : LiesWhereTold log old) → store_as_read old ≡ Some (store_in (old.contents.bytes log.bank))
   old_store w = store_at old.contents.bytes log.bank w.is.bank
 
-  kept_log : (w : StandsWhereTold log old) (banks : ℕ → List ℕ)
+  kept_log : (w : LiesWhereTold log old) (banks : ℕ → List ℕ)
       → banks log.bank ≡ old.contents.bytes log.bank → log_bank banks ≡ Some log.bank
       → store_of banks ≡ store_as_read old
   kept_log w banks same is =
       store_at banks log.bank is ∙ ap (λ (l : List ℕ). Some (store_in l)) same ∙ sym (old_store w)
 
   -- the other bank is shut
-  shut_other : (w : StandsWhereTold log old) (banks : ℕ → List ℕ)
+  shut_other : (w : LiesWhereTold log old) (banks : ℕ → List ℕ)
       → banks log.bank ≡ old.contents.bytes log.bank → is_open (banks other) ≡ false
       → store_of banks ≡ store_as_read old
   shut_other w banks same shut =
       kept_log w banks same (alone banks log.bank low_bank
       (ap is_open same ∙ was_open old.contents.bytes log.bank low_bank w.is.bank) shut)
 
-  fresh_other : (told : old.contents.told ≡ true) (w : StandsWhereTold log old) (banks : ℕ → List ℕ)
+  fresh_other : (told : old.contents.told ≡ true) (w : LiesWhereTold log old) (banks : ℕ → List ℕ)
       → banks log.bank ≡ old.contents.bytes log.bank → IsFresh (log.generation + 1) log.seq live (banks other)
       → store_of banks ≡ option_map reclaimed_store (store_as_read old)
   fresh_other told w banks same is =
@@ -278,7 +284,7 @@ module _ (log : LogValue) (live : List Change) (old : BenchValue) (under : Under
       differs _ _ (sym told) (sym (shut.outside.same 0 (inl (omega (arith, e)))) ∙ opens)
 
   -- the log is where it was while the headers are the same
-  same_heads : (w : StandsWhereTold log old) (banks : ℕ → List ℕ)
+  same_heads : (w : LiesWhereTold log old) (banks : ℕ → List ℕ)
       → banks log.bank ≡ old.contents.bytes log.bank
       → SameHead (old.contents.bytes other) (banks other) → store_of banks ≡ store_as_read old
   same_heads w banks mine head =
@@ -353,6 +359,59 @@ module _ (log : LogValue) (live : List Change) (old : BenchValue) (under : Under
       ∙ ap (λ (l : List ℕ). get_or l n 0) whole
       ∙ get_or-append_seam (head ++ entry) CLOSED_GATE [] 0
 
+  fresh_after : (new : BenchValue) (place : ℕ) → ChangesRegion other old new
+      → length (new.contents.bytes other) ≡ length (old.contents.bytes other)
+      → (new.contents.told ≡ true
+      → Reclaims place bytes (old.contents.bytes other) (new.contents.bytes other))
+      → new.contents.told ≡ true
+      → IsFresh (log.generation + 1) log.seq live (new.contents.bytes other)
+  fresh_after new place frame long done told =
+      let r = done told in
+      let wide : length (old.contents.bytes other) ≡ log.size = under.stands.size other low_other in
+      fresh (log.generation + 1) log.seq live r.between (new.contents.bytes other) under.low
+      under.low_seq under.small under.few under.each r.opened.gated r.opened.gate
+      (omega (arith, long, wide, under.fits))
+
+  lies_reclaimed : (new : BenchValue) (place n : ℕ) → n ≡ record_size 2 (length (body_of live))
+      → ChangesRegion other old new → IsRegionStable other new
+      → length (new.contents.bytes other) ≡ length (old.contents.bytes other)
+      → (new.contents.told ≡ true
+      → Reclaims place bytes (old.contents.bytes other) (new.contents.bytes other))
+      → new.contents.told ≡ true → LiesWhereTold (log_reclaimed log n) new
+  lies_reclaimed new place n is frame stable long done told =
+      let was : old.contents.told ≡ true = sym frame.told ∙ told in
+      let w = under.stands.told was in
+      let x = new.contents.bytes other in
+      let r = done told in
+      let f = fresh_after new place frame long done told in
+      let mine : new.contents.bytes log.bank ≡ old.contents.bytes log.bank = frame.bytes log.bank apart in
+      let opens : is_open (new.contents.bytes log.bank) ≡ true =
+      ap is_open mine ∙ was_open old.contents.bytes log.bank low_bank w.is.bank in
+      let each : (j : ℕ) → j < 2 → IsRegionStable j new =
+      λ j low. elim (cases_eq j other) [
+        | inl e ↦ subst (λ (k : ℕ). IsRegionStable k new) (sym e) stable
+        | inr ne ↦ record {
+          clean = λ m. ap (λ (t : ℕ → Bool). t m) (frame.dirty j ne)
+              ∙ (stable_at old j low w.first w.second).clean m;
+        }
+      ] in
+      let here : 16 + n ≡ 16 + record_size 2 (length (body_of live)) = omega (arith, is) in
+      record {
+        first = each 0 (omega arith);
+        second = each 1 (omega arith);
+        is = record {
+          bank = newer new.contents.bytes log.bank low_bank opens f.open_now
+              (omega (arith, ap generation_of mine, w.is.generation, f.generation_is));
+          seq = ap (λ (l : List Entry). unwrap_or (last_of None l) 0) f.entries;
+          generation = f.generation_is;
+          ends = omega (arith, is, ap taken f.entries);
+          closed = ap (λ (b : ℕ). not (nat_eq b OPEN_GATE))
+              (sym (ap (λ (k : ℕ). get_or x k 0) here ∙ last_shut r.between x r.opened.gated));
+          other = sym (ap (λ (k : ℕ). nat_eq (get_or (new.contents.bytes k) 0 0) OPEN_GATE) back
+              ∙ and_first (nat_eq (get_or (new.contents.bytes log.bank) 0 0) OPEN_GATE) _ opens);
+        };
+      }
+
   pub stands_reclaimed : (new : BenchValue) (place n : ℕ) → n ≡ record_size 2 (length (body_of live))
       → ChangesRegion other old new → IsRegionStable other new
       → length (new.contents.bytes other) ≡ length (old.contents.bytes other)
@@ -360,51 +419,37 @@ module _ (log : LogValue) (live : List Change) (old : BenchValue) (under : Under
       → Reclaims place bytes (old.contents.bytes other) (new.contents.bytes other))
       → StandsOn (log_reclaimed log n) new
   stands_reclaimed new place n is frame stable long done = record {
-    size = λ k low. elim (cases_eq k other) [
-      | inl e ↦ ap (λ (j : ℕ). length (new.contents.bytes j)) e ∙ long ∙ under.stands.size other low_other
-      | inr ne ↦ ap length (frame.bytes k ne) ∙ under.stands.size k low
-    ];
-    told = λ told.
-        let was : old.contents.told ≡ true = sym frame.told ∙ told in
-        let w = under.stands.told was in
-        let x = new.contents.bytes other in
-        let r = done told in
-        let wide : length (old.contents.bytes other) ≡ log.size = under.stands.size other low_other in
-        let f = fresh (log.generation + 1) log.seq live r.between x under.low under.low_seq
-        under.small under.few under.each r.opened.gated r.opened.gate
-        (omega (arith, long, wide, under.fits)) in
-        let mine : new.contents.bytes log.bank ≡ old.contents.bytes log.bank = frame.bytes log.bank apart in
-        let opens : is_open (new.contents.bytes log.bank) ≡ true =
-        ap is_open mine ∙ was_open old.contents.bytes log.bank low_bank w.is.bank in
-        let each : (j : ℕ) → j < 2 → IsRegionStable j new =
-        λ j low. elim (cases_eq j other) [
-          | inl e ↦ subst (λ (k : ℕ). IsRegionStable k new) (sym e) stable
-          | inr ne ↦ record {
-            clean = λ m. ap (λ (t : ℕ → Bool). t m) (frame.dirty j ne)
-                ∙ (stable_at old j low w.first w.second).clean m;
-          }
-        ] in
-        let here : 16 + n ≡ 16 + record_size 2 (length (body_of live)) = omega (arith, is) in
-        record {
-          first = each 0 (omega arith);
-          second = each 1 (omega arith);
-          is = record {
-            bank = newer new.contents.bytes log.bank low_bank opens f.open_now
-                (omega (arith, ap generation_of mine, w.is.generation, f.generation_is));
-            format = f.format;
-            seq = ap (λ (l : List Entry). unwrap_or (last_of None l) 0) f.entries;
-            generation = f.generation_is;
-            ends = omega (arith, is, ap taken f.entries);
-            closed = ap (λ (b : ℕ). not (nat_eq b OPEN_GATE))
-                (sym (ap (λ (k : ℕ). get_or x k 0) here ∙ last_shut r.between x r.opened.gated));
-            other = sym (ap (λ (k : ℕ). nat_eq (get_or (new.contents.bytes k) 0 0) OPEN_GATE) back
-                ∙ and_first (nat_eq (get_or (new.contents.bytes log.bank) 0 0) OPEN_GATE) _ opens);
-          };
-        };
+    lies = record {
+      size = λ k low. elim (cases_eq k other) [
+        | inl e ↦ ap (λ (j : ℕ). length (new.contents.bytes j)) e ∙ long ∙ under.stands.size other low_other
+        | inr ne ↦ ap length (frame.bytes k ne) ∙ under.stands.size k low
+      ];
+      told = lies_reclaimed new place n is frame stable long done;
+    };
+    format = λ told. (fresh_after new place frame long done told).format;
   }
 
+-- a reclaim of what lives, which takes n bytes
+pub under_reclaim : (log : LogValue) (live : List Change) (old : BenchValue) → IsLog log → LiesOn log old
+    → IsLive live old → log.generation + 1 < 2 ^ 64 → log.seq < 2 ^ 64 → (n : ℕ)
+    → n ≡ record_size 2 (length (body_of live)) → 17 + n ≤ log.size → log.size < 2 ^ 32
+    → All (λ c. IsTrue (is_change c)) live → All (λ c. IsTrue (has_sizes c)) live → UnderReclaim log live old
+under_reclaim log live old place lies lives low low_seq n is fits small each sizes =
+    let few = few_changes live sizes in
+    record {
+      place = place;
+      stands = lies;
+      lives = lives;
+      low = low;
+      low_seq = low_seq;
+      small = omega (arith, is);
+      few = omega (arith, is, few, place.size);
+      each = each;
+      fits = omega (arith, is);
+    }
+
 -- where nothing moved
-pub unmoved : (log : LogValue) (old : BenchValue) → StandsOn log old → KeepsVariables old old
+pub unmoved : (log : LogValue) (old : BenchValue) → LiesOn log old → KeepsVariables old old
 unmoved log old stands = λ image is.
     let w = stands.told (is 0).told in
     inl (same_store old.contents.bytes image

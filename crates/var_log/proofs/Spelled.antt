@@ -1,11 +1,14 @@
 -- What is written is read: a change, a body and a record.
 use Rattle.std.proofs.Common.{◌≡◌, ℕ, zero, suc, ◌+◌, ◌<◌, ◌≤◌, ◌^◌, List, [], ◌∷◌, ◌++◌}
-use Rattle.std.proofs.Common.{length, get_or, take, drop, replicate, refl, sym, ap, ◌∙◌, subst, arith}
-use Rattle.std.proofs.Common.{Option, Some, None, Bool, true, false, ◌&&◌, append_assoc, length-append}
+use Rattle.std.proofs.Common.{length, get_or, take, drop, replicate, refl, sym, ap, ◌∙◌, subst}
+use Rattle.std.proofs.Common.{arith}
+use Rattle.std.proofs.Common.{Option, Some, None, Bool, true, false, ◌&&◌, append_assoc}
+use Rattle.std.proofs.Common.{length-append}
 use Rattle.std.proofs.Common.{All, IsTrue, nat_eq, nat_le, nat_lt}
 use Rattle.std.proofs.lemmas.Bool.{le-leb, leb-true, lt-ltb}
 use Rattle.std.proofs.lemmas.Bool.Decides.{nat_tests}
-use Rattle.std.proofs.lemmas.List.{drop_at, drop_more, length-replicate, drop_all, take_all, append-nil}
+use Rattle.std.proofs.lemmas.List.{drop_at, drop_more, length-replicate, drop_all, take_all}
+use Rattle.std.proofs.lemmas.List.{append-nil}
 use Rattle.std.proofs.lemmas.List.{length-take, length-drop}
 use Rattle.std.specs.List.{flat_map, list_all}
 use Rattle.cu_base.specs.Fields.{bytes_of, field, number, number_at}
@@ -25,7 +28,7 @@ pub and_first : (a b : Bool) → (a && b) ≡ true → a ≡ true
 and_first true b h = refl
 and_first false b h = h
 
-and_second : (a b : Bool) → (a && b) ≡ true → b ≡ true
+pub and_second : (a b : Bool) → (a && b) ≡ true → b ≡ true
 and_second true b h = h
 and_second false b h = absurd cc
 
@@ -115,7 +118,7 @@ read_delete name g rest sixteen is =
 pub eqb-true : (a b : ℕ) → nat_eq a b ≡ true → a ≡ b
 eqb-true a b h = grind (arith, nat_tests)
 
-ltb-true : (a b : ℕ) → nat_lt a b ≡ true → a < b
+pub ltb-true : (a b : ℕ) → nat_lt a b ≡ true → a < b
 ltb-true a b h = grind (arith, nat_tests)
 
 -- a change that is within the limits is read as it was written
@@ -280,7 +283,7 @@ module _ (format number : ℕ) (cs : List Change) (rest : List ℕ) where
       ap (list_all (λ b. nat_eq b 0)) zeros_are ∙ all_zeros (padding format body_size) in
       rw (size_is small, number_is low, within, read, zeros, next) refl
 
-and_true : (a b : Bool) → a ≡ true → b ≡ true → (a && b) ≡ true
+pub and_true : (a b : Bool) → a ≡ true → b ≡ true → (a && b) ≡ true
 and_true true b p q = q
 and_true false b p q = absurd cc
 

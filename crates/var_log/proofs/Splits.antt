@@ -1,7 +1,8 @@
 -- The records of a bank depend on the bytes in front of their end alone, and then on what stands
 -- there.
 use Rattle.std.proofs.Common.{◌≡◌, ℕ, zero, suc, ◌+◌, ◌<◌, ◌≤◌, ◌^◌, List, [], ◌∷◌, ◌++◌}
-use Rattle.std.proofs.Common.{length, get_or, take, drop, refl, sym, ap, ◌∙◌, subst, arith, Option, Some}
+use Rattle.std.proofs.Common.{length, get_or, take, drop, refl, sym, ap, ◌∙◌, subst, arith, Option}
+use Rattle.std.proofs.Common.{Some}
 use Rattle.std.proofs.Common.{None, is_none, Bool, true, false, not, All, IsTrue}
 use Rattle.std.proofs.Common.{nat_lt, nat_eq}
 use Rattle.std.proofs.Common.{append_assoc, length-append}
@@ -77,13 +78,13 @@ same_entry format before old new stands same within =
 
 -- ---- the entries of bytes with the same front
 
-no_entries : (most : ℕ) (format : ℕ) (before : Option ℕ) (bytes : List ℕ)
+pub no_entries : (most : ℕ) (format : ℕ) (before : Option ℕ) (bytes : List ℕ)
     → is_none (first_refusal (end_rows format before bytes)) ≡ false
     → entries_in (suc most) format before bytes ≡ []
 unfolding entries_in
 no_entries most format before bytes ends = rw ends refl
 
-some_entry : (most : ℕ) (format : ℕ) (before : Option ℕ) (bytes : List ℕ)
+pub some_entry : (most : ℕ) (format : ℕ) (before : Option ℕ) (bytes : List ℕ)
     → is_none (first_refusal (end_rows format before bytes)) ≡ true
     → let e = entry_of format bytes in
     entries_in (suc most) format before bytes
@@ -91,7 +92,7 @@ some_entry : (most : ℕ) (format : ℕ) (before : Option ℕ) (bytes : List ℕ
 unfolding entries_in
 some_entry most format before bytes stands = rw stands refl
 
-nothing : (format : ℕ) (before : Option ℕ) (bytes : List ℕ) → entries_in 0 format before bytes ≡ []
+pub nothing : (format : ℕ) (before : Option ℕ) (bytes : List ℕ) → entries_in 0 format before bytes ≡ []
 unfolding entries_in
 nothing format before bytes = refl
 

@@ -4,3 +4,6 @@ pub mod Counts
 pub mod Logs
 pub mod Moves
 pub mod Records
+pub mod Seen
+pub mod Scans
+pub mod Opens

@@ -46,10 +46,9 @@ pub record HasBanks (b : BenchValue) : Type 0 where
   pub low : MIN_BANK ≤ length (b.contents.bytes 0)
   pub high : length (b.contents.bytes 0) ≤ MAX_BANK
 
--- the log is that of these banks
+-- the log is that of these banks, in either format
 pub record IsLogOf (log : LogValue) (banks : ℕ → List ℕ) : Type 0 where
   pub bank : log_bank banks ≡ Some log.bank
-  pub format : format_of (banks log.bank) ≡ 2
   pub seq : unwrap_or (last_of None (entries_of (banks log.bank))) 0 ≡ log.seq
   pub generation : generation_of (banks log.bank) ≡ log.generation
   pub ends : end_of (banks log.bank) ≡ log.at
@@ -57,16 +56,21 @@ pub record IsLogOf (log : LogValue) (banks : ℕ → List ℕ) : Type 0 where
   pub other : log.other_gate ≡ (get_or (banks (1 - log.bank)) 0 0 == OPEN_GATE)
 
 -- what holds where the bytes of the flash are told
-pub record StandsWhereTold (log : LogValue) (b : BenchValue) : Type 0 where
+pub record LiesWhereTold (log : LogValue) (b : BenchValue) : Type 0 where
   pub first : IsRegionStable 0 b
   pub second : IsRegionStable 1 b
   pub is : IsLogOf log b.contents.bytes
 
--- the log stands on the flash: its banks have the log's size, and where they are told they are not
--- dirty, and their bytes are this log
-pub record StandsOn (log : LogValue) (b : BenchValue) : Type 0 where
+-- the log lies on the flash, in either format: its banks have the log's size, and where they are
+-- told they are not dirty, and their bytes are this log
+pub record LiesOn (log : LogValue) (b : BenchValue) : Type 0 where
   pub size : (k : ℕ) → k < 2 → length (b.contents.bytes k) ≡ log.size
-  pub told : b.contents.told ≡ true → StandsWhereTold log b
+  pub told : b.contents.told ≡ true → LiesWhereTold log b
+
+-- the log stands on the flash: it lies there in format 2
+pub record StandsOn (log : LogValue) (b : BenchValue) : Type 0 where
+  pub lies : LiesOn log b
+  pub format : b.contents.told ≡ true → format_of (b.contents.bytes log.bank) ≡ 2
 
 -- the log once a record of so many bytes was appended
 abbrev pub log_after : LogValue → ℕ → LogValue
@@ -175,14 +179,17 @@ is_full (Err Full) = true
 is_full (Err Stale) = false
 is_full (Err Memory) = false
 
+-- the other bank does not take n bytes of what lives and so many more, or the generation is the
+-- greatest
+abbrev pub is_bank_full : ℕ → ℕ → LogValue → Bool
+is_bank_full n bytes log = nat_lt log.size (17 + n + bytes) || log.generation == 2 ^ 64 - 1
+
 -- there is no room for so many bytes: the last number is the greatest, or too few are free, and
 -- either too few would be once what lives takes n bytes of the other bank, or the generation is the
 -- greatest
 abbrev pub is_log_full : ℕ → ℕ → LogValue → Bool
 is_log_full n bytes log =
-    log.seq == 2 ^ 64 - 1
-    || (nat_lt (free_of log) bytes
-    && (nat_lt (log.size - 17 - n) bytes || log.generation == 2 ^ 64 - 1))
+    log.seq == 2 ^ 64 - 1 || (nat_lt (free_of log) bytes && is_bank_full n bytes log)
 
 -- these changes make exactly the variables of the log
 abbrev pub IsLive : List Change → BenchValue → Type 0
@@ -206,6 +213,15 @@ log_reclaimed log n = record log {
   closed = true;
   other_gate = true;
 }
+
+-- what a reclaim leaves of the log, where what lives takes n bytes of the other bank
+abbrev pub ReclaimLeaves : {T : Type 0} → ℕ → LogValue → LogValue → Result T LogFault → Type 0
+ReclaimLeaves n old new (Ok x) = new ≡ log_reclaimed old n
+ReclaimLeaves n old new (Err Flash) = new ≡ record old { stale = true }
+ReclaimLeaves n old new (Err NoBank) = ⊥
+ReclaimLeaves n old new (Err Full) = new ≡ old
+ReclaimLeaves n old new (Err Stale) = ⊥
+ReclaimLeaves n old new (Err Memory) = new ≡ old
 
 -- what a call for room leaves of the log
 abbrev pub RoomLeaves : {T : Type 0} → ℕ → ℕ → LogValue → LogValue → Result T LogFault → Type 0

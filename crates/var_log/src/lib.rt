@@ -4,14 +4,19 @@
 
 mod batch;
 mod change;
+mod choosing;
 mod fault;
 mod formatting;
 pub mod laws;
 mod limits;
 mod log;
 mod moving;
+mod opening;
 mod reclaiming;
 mod record;
+mod scanning;
+mod seen;
+mod settling;
 
 pub use batch::Batch;
 pub use change::{Change, is_name};

@@ -10,14 +10,15 @@ ghost use Rattle.cu_base.specs.Causes.{HasCauseOf};
 ghost use Rattle.var_log.specs.Banks.{reclaimed};
 ghost use Rattle.var_log.specs.Changes.{has_sizes, keeps_limits};
 ghost use Rattle.var_log.specs.Counts.{raised, with_room};
-ghost use Rattle.var_log.specs.Logs.{free_of, HasBanks, StandsOn, is_stale, is_full, is_log_full};
-ghost use Rattle.var_log.specs.Logs.{IsLive, KeepsVariables, RoomLeaves, StaysUnlessFlash};
+ghost use Rattle.var_log.specs.Logs.{free_of, HasBanks, LiesOn, StandsOn, is_stale, is_full};
+ghost use Rattle.var_log.specs.Logs.{is_bank_full, is_log_full, IsLive, KeepsVariables};
+ghost use Rattle.var_log.specs.Logs.{ReclaimLeaves, RoomLeaves, StaysUnlessFlash};
 ghost use Rattle.var_log.specs.Moves.{IsReclaiming, Reclaims};
 ghost use Rattle.var_log.specs.Records.{body_of, record_size};
 
 use crate::limits::{BANK_HEAD, MAX_CHANGES, MAX_RECORD};
 use crate::moving::{open_behind, shut};
-use crate::record::{put, put_record, record_len};
+use crate::record::{put, put_record, size_within};
 use crate::{Batch, Change, LogFault, VarLog};
 use bench_model::Flash;
 use cu_base::{Failed, NoMemory, bytes_of_u64};
@@ -40,8 +41,6 @@ impl VarLog {
         requires stands { self.old.stale ≡ false → StandsOn self.old (F.state flash.old) }
         requires live { self.old.stale ≡ false → IsLive live.now.items (F.state flash.old) }
         requires limits { All (λ c. IsTrue (keeps_limits c)) live.now.items }
-        requires count { length live.now.items ≤ MAX_CHANGES }
-        requires size { length (body_of live.now.items) < 2 ^ 32 }
         ensures value { RoomLeaves (record_size 2 (length (body_of live.now.items))) bytes self.old
             self.new result }
         ensures images { self.old.stale ≡ false
@@ -69,13 +68,50 @@ impl VarLog {
         if bytes <= self.free() {
             return Ok(());
         }
-        let n = record_len(live.as_slice());
-        if self.generation == u64::MAX
-            || (self.size as usize) < BANK_HEAD + n + bytes as usize + 1
-        {
+        self.reclaim_live(alloc, flash, live.as_slice(), bytes)
+    }
+
+    /// Writes the variables that live into the other bank, in format 2 and under the next
+    /// generation. `Full` where they and so many bytes more do not fit, or there is no next one.
+    pub(crate) fn reclaim_live<F: Flash>(
+        &mut self,
+        alloc: Global,
+        flash: &mut F,
+        live: &[Change],
+        bytes: u32,
+    ) -> Result<(), LogFault>
+        requires banks { HasBanks (F.state flash.old) }
+        requires lies { LiesOn self.old (F.state flash.old) }
+        requires live { IsLive live.now (F.state flash.old) }
+        requires limits { All (λ c. IsTrue (keeps_limits c)) live.now }
+        ensures value { ReclaimLeaves (record_size 2 (length (body_of live.now))) self.old self.new
+            result }
+        ensures images { KeepsVariables (F.state flash.old) (F.state flash.new) }
+        ensures free { OnOk result (bytes ≤ free_of self.new) }
+        ensures stands { OnOk result (StandsOn self.new (F.state flash.new)) }
+        ensures err { StaysUnlessFlash (F.state flash.old) (F.state flash.new) result }
+        ensures full { is_full result
+            ≡ is_bank_full (record_size 2 (length (body_of live.now))) bytes self.old }
+        ensures frame { ChangesRegion (1 - self.old.bank) (F.state flash.old) (F.state flash.new) }
+        ensures long { length ((F.state flash.new).contents.bytes (1 - self.old.bank))
+            ≡ length ((F.state flash.old).contents.bytes (1 - self.old.bank)) }
+        ensures moves { OnOk result ((F.state flash.new).counts.moves
+            ≡ raised (F.state flash.old).counts.moves 6) }
+        ensures bound { (F.state flash.new).counts.moves ≤ (F.state flash.old).counts.moves + 6 }
+        ensures looks { (F.state flash.new).counts.looks ≡ (F.state flash.old).counts.looks }
+        ensures cause { HasCauseOf LogFault.Flash (F.state flash.old).counts.flash_faults
+            (F.state flash.new).counts.flash_faults result }
+    {
+        if self.generation == u64::MAX {
             return Err(LogFault::Full);
         }
-        let written = match bank_bytes(alloc, self.generation + 1, self.seq, live.as_slice()) {
+        let Some(n) = size_within(live, self.size as usize) else {
+            return Err(LogFault::Full);
+        };
+        if (self.size as usize) < BANK_HEAD + n + bytes as usize + 1 {
+            return Err(LogFault::Full);
+        }
+        let written = match bank_bytes(alloc, self.generation + 1, self.seq, live) {
             Ok(written) => written,
             Err(_) => return Err(LogFault::Memory),
         };

@@ -2,6 +2,7 @@ ghost use Rattle.std.specs.Prelude.{◌≡◌, ◌≤◌, ◌<◌, ◌+◌, ◌^
 ghost use Rattle.std.specs.Prelude.{IfOk};
 ghost use Rattle.std.specs.Prelude.{OnOk, OnErr, replicate, take, drop};
 ghost use Rattle.std.specs.List.{flat_map};
+ghost use Rattle.std.specs.Option.{SomeIff, OnSome};
 ghost use Rattle.cu_base.specs.Fields.{bytes_of};
 ghost use Rattle.var_log.specs.Changes.{keeps_limits, has_sizes};
 ghost use Rattle.var_log.specs.Records.{body_of, change_bytes, record_of, record_bytes};
@@ -132,6 +133,14 @@ fn reserve(out: &mut Vec<u8>, n: usize) -> Result<(), NoMemory>
     }
 }
 
+/// How many zero bytes follow a body of so many bytes in a bank of this format.
+pub(crate) fn padding_of(format: u32, body: usize) -> usize
+    ensures value { result ≡ padding format body }
+    ensures bound { result < 8 }
+{
+    if format == 1 { 0 } else { padding(body) }
+}
+
 // How many zero bytes follow a body of so many bytes.
 fn padding(body: usize) -> usize
     ensures value { result ≡ padding 2 body }
@@ -155,33 +164,48 @@ fn body_len(changes: &[Change]) -> usize
 
 // The bytes of a GUID.
 fn id(guid: &Guid) -> &[u8]
-    ensures { result.now ≡ guid.now.bytes }
+    ensures value { result.now ≡ guid.now.bytes }
+    ensures long { length result.now ≡ 16 }
 {
     &guid.bytes
 }
 
-/// The bytes that the record of these changes takes.
-pub(crate) fn record_len(changes: &[Change]) -> usize
+/// The bytes that the record of these changes takes, where they are at most so many.
+pub(crate) fn size_within(changes: &[Change], most: usize) -> Option<usize>
     requires limits { All (λ c. IsTrue (keeps_limits c)) changes.now }
-    requires size { length (body_of changes.now) < 2 ^ 32 }
-    ensures value { result ≡ record_size 2 (length (body_of changes.now)) }
+    requires small { most < 2 ^ 32 }
+    ensures value { SomeIff result (record_size 2 (length (body_of changes.now)) ≤ most)
+        (record_size 2 (length (body_of changes.now))) }
+    ensures sizes { OnSome result (All (λ c. IsTrue (has_sizes c)) changes.now) }
 {
-    let body = body_len(changes);
-    RECORD_HEAD + body + padding(body)
+    let mut body = 2;
+    for change in changes {
+        body += change_len(change);
+        if body > most {
+            return None;
+        }
+    }
+    let size = RECORD_HEAD + body + padding(body);
+    if size <= most { Some(size) } else { None }
 }
 
 // How many bytes a change has.
 fn change_len(change: &Change) -> usize
     requires limits { IsTrue (keeps_limits change.now) }
     ensures value { result ≡ length (change_bytes change.now) }
+    ensures bound { result < 2 ^ 15 }
+    ensures sizes { IsTrue (has_sizes change.now) }
 {
     match change {
         Change::Set {
             name,
             guid,
+            attributes,
             value,
-            ..
-        } => 10 + name.as_str().len() + id(guid).len() + value.len(),
+        } => {
+            let _attributes = *attributes;
+            10 + name.as_str().len() + id(guid).len() + value.len()
+        }
         Change::Delete { name, guid } => 2 + name.as_str().len() + id(guid).len(),
     }
 }

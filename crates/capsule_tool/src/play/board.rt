@@ -9,7 +9,7 @@ ghost use Rattle.capsule_tool.specs.Steps.{StepsTo, IsStep};
 use crate::answer::Answer;
 use crate::input::read_input;
 use crate::limits::MAX_TEXT_BYTES;
-use crate::names::board_kind;
+use crate::names::file_kind;
 use crate::stop::Stop;
 use bench_model::Board;
 use cu_base::{Blob, Text};
@@ -45,7 +45,7 @@ fn board_of(alloc: Global, name: &Text, bytes: &Blob) -> Result<Board, Stop>
             }
         }
         Err(FileFault::Bad { kind, key }) => {
-            let kind = board_kind(kind);
+            let kind = file_kind(kind);
             Err(Stop::Answered(Answer::faulty_board(alloc, kind, key.as_str())?))
         }
         Err(FileFault::Memory) => Err(Stop::Memory),

@@ -5,9 +5,11 @@ ghost use Rattle.std.specs.Prelude.{OnOk, OnErr, position};
 ghost use Rattle.std.specs.List.{list_any, position_or_len};
 ghost use Rattle.reference_machine.specs.Boots.{is_file};
 ghost use Rattle.reference_machine.specs.Events.{bytes_beside};
-ghost use Rattle.reference_machine.specs.Names.{is_same_name, is_taken_before};
+ghost use Rattle.bench_model.specs.Files.{is_same_name};
+ghost use Rattle.reference_machine.specs.Names.{is_taken_before};
 ghost use Rattle.reference_machine.specs.Order.{in_order, inserted};
 
+use bench_model::is_same_name;
 use cu_base::{NoMemory, Text};
 use std::alloc::Global;
 use std::marker::Model;
@@ -21,7 +23,7 @@ pub struct StoredFile<'a> {
 }
 
 impl<'a> Model for StoredFile<'a> {
-    ghost use Rattle.reference_machine.specs.Machine.{File};
+    ghost use Rattle.bench_model.specs.Files.{File};
 
     ghost Value = { File };
 
@@ -34,28 +36,6 @@ impl<'a> StoredFile<'a> {
         ensures { result.now ≡ self.now.name }
     {
         self.name.as_str()
-    }
-}
-
-/// Whether two names name one file: they differ in case alone.
-pub fn is_same_name(a: &str, b: &str) -> bool
-    ensures { result ≡ is_same_name a.now b.now }
-{
-    let mut left = a.as_bytes();
-    let mut right = b.as_bytes();
-    'bytes: loop {
-        match (left.split_first(), right.split_first()) {
-            (None, None) => return true,
-            (Some((x, xs)), Some((y, ys))) => {
-                if x.to_ascii_uppercase() != y.to_ascii_uppercase() {
-                    return false;
-                }
-                left = xs;
-                right = ys;
-            }
-            (None, Some(_)) => return false,
-            (Some(_), None) => return false,
-        }
     }
 }
 

@@ -9,15 +9,15 @@ ghost use Rattle.std.specs.Prelude.{not, filter, IfOk, OnOk, OnErr};
 ghost use Rattle.reference_machine.specs.Events.Act.{Drop, Signal};
 ghost use Rattle.reference_machine.specs.Events.{outcome, plain, is_folder_full};
 ghost use Rattle.reference_machine.specs.Machine.{fresh};
-ghost use Rattle.reference_machine.specs.Names.{is_same_name};
+ghost use Rattle.bench_model.specs.Files.{is_same_name};
 ghost use Rattle.reset_play.specs.Plays.{has_one_device, is_thin_on};
 ghost use Rattle.reset_play.specs.Thin.{thin};
 ghost use Rattle.reference_machine.specs.TraceValues.{answer_value, entry_value};
 
-use super::folder::{StoredFile, bytes_beside, has_file, is_same_name};
+use super::folder::{StoredFile, bytes_beside, has_file};
 use super::spent::{SpentTries, SpentTry};
 use crate::{Answer, Entry, MAX_FILES, MAX_FOLDER_BYTES, Serials};
-use bench_model::Board;
+use bench_model::{Board, is_same_name};
 use cu_base::{Items, NoMemory, Text};
 use std::alloc::Global;
 use std::marker::Model;

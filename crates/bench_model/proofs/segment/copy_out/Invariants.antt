@@ -1,8 +1,9 @@
-use Rattle.std.proofs.Common.{◌≡◌, ℕ, ◌+◌, ◌<◌, Some, get_or}
-use Rattle.bench_model.specs.Memory.{byte_at}
+use Rattle.std.proofs.Common.{◌≡◌, length, take}
+use Rattle.bench_model.specs.Memory.{IsShown}
 use Rattle.bench_model.proofs.segment.copy_out.Given as goal
 
-abbrev pub invariant-loop-k : goal.invariant-loop-k
-invariant-loop-k l = record {
-  below : (j : ℕ) → j < l.k → byte_at l.segments (l.at + j) ≡ Some (get_or l.out j 0);
+abbrev pub invariant-loop-layer : goal.invariant-loop-layer
+invariant-loop-layer l = record {
+  size : length l.out ≡ length l.initial.out;
+  shown : IsShown (take l.layer-index l.segments) l.at l.out;
 }

@@ -14,10 +14,10 @@ returns-in_err-usage-in-None-clause-steps g c =
     ends_short (work_of c.args.words.now) (λ (found : Finding). Finds found) b _ b _ is
     (stays b.named (work_of c.args.words.now) b)
 
-pub returns-in_err-later-in-Some-Show-clause-steps :
-    goal.returns-in_err-later-in-Some-Show-clause-steps
-returns-in_err-later-in-Some-Show-clause-steps g c =
+pub returns-in_err-later-in-Some-Load-clause-steps :
+    goal.returns-in_err-later-in-Some-Load-clause-steps
+returns-in_err-later-in-Some-Load-clause-steps g c =
     let b = g.I.Inputs.seen c.args.inputs.now in
-    let is : c.from_residual-in_err-later-in-Some-Show.result ≡ Err Memory = search rules in
+    let is : c.from_residual-in_err-later-in-Some-Load.result ≡ Err Memory = search rules in
     ends_short (work_of c.args.words.now) (λ (found : Finding). Finds found) b _ b _ is
     (stays b.named (work_of c.args.words.now) b)

@@ -1,213 +1,92 @@
-use Rattle.std.proofs.Common.{◌≡◌, ◌+◌, ◌≤◌, ◌∙◌, ℕ, Bool, true, length, Result, Ok, Err, sym, ap}
-use Rattle.std.proofs.Common.{subst, rules, arith}
-use Rattle.cu_base.specs.Causes.{HasCauseOf}
+use Rattle.std.proofs.Common.{◌≡◌, ◌+◌, ◌≤◌, ◌∙◌, ℕ, List, Bool, length, arith, ap, subst}
+use Rattle.std.proofs.Common.{Result, Ok, Err}
 use Rattle.fmp_slot.specs.declared.faults.SlotFault.{SlotFault}
-use Rattle.fmp_slot.specs.declared.faults.SlotFault.TheVariants.{Flash}
-use Rattle.fmp_slot.specs.Held.{KeepsSlots, held, region_in}
+use Rattle.fmp_slot.specs.declared.faults.SlotFault.TheVariants.{Flash, TooLarge, Apart}
+use Rattle.fmp_slot.specs.declared.slot.SlotHead.{SlotHead}
+use Rattle.fmp_slot.specs.Held.{HeldSlot, IsDurable, KeepsOrSeals, held, region_in}
+use Rattle.fmp_slot.specs.Refusals.{FinishesAt}
 use Rattle.fmp_slot.specs.Spending.{ChangesDevice}
-use Rattle.fmp_slot.specs.Writing.{Writing, started}
-use Rattle.slot_forms.specs.Setting.{SetsOver, ReadsAnother}
-use Rattle.slot_forms.proofs.Joins.{keeps_then, seals_by_keeping, changes_then, cause_then}
-use Rattle.slot_forms.proofs.Joins.{another_by_back, sets_by_another}
-use Rattle.slot_forms.proofs.Joins.{since_start, seals_whole, durable_whole}
+use Rattle.fmp_slot.specs.Writing.{Places, Writing, pieces_of}
+use Rattle.fmp_slot.proofs.Joins.{cause_then, changes_then, keeps_then_seals, on_ok}
+use Rattle.fmp_slot.proofs.Joins.{seals_by_keeping, spends_up_to_then}
+use Rattle.slot_forms.specs.Setting.{SetsOver}
 use Rattle.slot_forms.proofs.any_form.set_in.Goals as goal
 
-pub returns-in_err-put_all-clause-images : goal.returns-in_err-put_all-clause-images
-returns-in_err-put_all-clause-images g c =
-    let device = c.args.device in
-    let old = g.F.BenchState.state c.args.flash.now in
-    let begun = g.F.BenchState.state c.start.new.flash in
-    let mid = g.F.BenchState.state c.put_all.new.flash in
-    let first = c.in_ok-writer.ensures.ok in
-    let same : (g.S.SlotForm.writing c.in_ok-writer.writer).device ≡ device =
-    ap (λ (w : Writing). w.device) first in
-    let keeps = keeps_then g.S.SlotForm.slot_of (region_in device old) (region_in device begun)
-    (region_in device mid) c.start.ensures.images
-    (subst (λ (d : ℕ). KeepsSlots g.S.SlotForm.slot_of (region_in d begun) (region_in d mid)) same
-    c.put_all.ensures.images) in
-    seals_by_keeping g.S.SlotForm.slot_of (held c.args.head.now c.args.dep.now c.args.payload.now)
-    (region_in device old) (region_in device mid) keeps
-
-pub returns-in_err-seal-clause-images : goal.returns-in_err-seal-clause-images
-returns-in_err-seal-clause-images g c =
-    let device = c.args.device in
-    let payload = c.args.payload.now in
-    let old = g.F.BenchState.state c.args.flash.now in
-    let begun = g.F.BenchState.state c.start.new.flash in
-    let mid = g.F.BenchState.state c.put_all.new.flash in
-    let new = g.F.BenchState.state c.seal.new.flash in
-    let first = c.in_ok-writer.ensures.ok in
-    let same : (g.S.SlotForm.writing c.in_ok-writer.writer).device ≡ device =
-    ap (λ (w : Writing). w.device) first in
-    let w = started device c.args.head.now c.args.dep.now in
-    let writer = c.put_all.new.writer in
-    let last = g.S.SlotForm.writing writer in
-    let done = since_start last (g.S.SlotForm.writing c.in_ok-writer.writer) w (length payload)
-    c.in_ok-put_all.ensures.ok first in
-    let bytes = g.S.SlotForm.taken writer (region_in last.device mid).bytes in
-    let all : mid.contents.told ≡ true → bytes ≡ payload =
-    λ told. subst (λ (d : ℕ). g.S.SlotForm.taken writer (region_in d mid).bytes ≡ payload)
-    (sym (ap (λ (u : Writing). u.device) c.in_ok-put_all.ensures.ok))
-    (c.in_ok-put_all.ensures.taken (sym c.put_all.ensures.frame.others.told ∙ told)) in
-    let told : new.contents.told ≡ mid.contents.told = c.seal.ensures.frame.others.told in
-    let keeps = keeps_then g.S.SlotForm.slot_of (region_in device old) (region_in device begun)
-    (region_in device mid) c.start.ensures.images
-    (subst (λ (d : ℕ). KeepsSlots g.S.SlotForm.slot_of (region_in d begun) (region_in d mid)) same
-    c.put_all.ensures.images) in
-    seals_whole g.S.SlotForm.slot_of w last (length payload) payload bytes old mid new done all told
-    keeps c.seal.ensures.images
+pub returns-in_err-writer-clause-images : goal.returns-in_err-writer-clause-images
+returns-in_err-writer-clause-images g c =
+    let region = region_in c.args.device in
+    seals_by_keeping g.S.SlotForm.slot_of
+    (held c.args.head.now c.args.dep.now c.args.payload.now)
+    (region (g.F.BenchState.state c.args.flash.now)) (region (g.F.BenchState.state c.start.new.flash))
+    c.start.ensures.images
 
 pub returns-clause-images : goal.returns-clause-images
 returns-clause-images g c =
     let device = c.args.device in
     let payload = c.args.payload.now in
+    let slot_of = g.S.SlotForm.slot_of in
     let old = g.F.BenchState.state c.args.flash.now in
-    let begun = g.F.BenchState.state c.start.new.flash in
-    let mid = g.F.BenchState.state c.put_all.new.flash in
-    let new = g.F.BenchState.state c.seal.new.flash in
-    let first = c.in_ok-writer.ensures.ok in
-    let same : (g.S.SlotForm.writing c.in_ok-writer.writer).device ≡ device =
-    ap (λ (w : Writing). w.device) first in
-    let w = started device c.args.head.now c.args.dep.now in
-    let writer = c.put_all.new.writer in
-    let last = g.S.SlotForm.writing writer in
-    let done = since_start last (g.S.SlotForm.writing c.in_ok-writer.writer) w (length payload)
-    c.in_ok-put_all.ensures.ok first in
-    let bytes = g.S.SlotForm.taken writer (region_in last.device mid).bytes in
-    let all : mid.contents.told ≡ true → bytes ≡ payload =
-    λ told. subst (λ (d : ℕ). g.S.SlotForm.taken writer (region_in d mid).bytes ≡ payload)
-    (sym (ap (λ (u : Writing). u.device) c.in_ok-put_all.ensures.ok))
-    (c.in_ok-put_all.ensures.taken (sym c.put_all.ensures.frame.others.told ∙ told)) in
-    let told : new.contents.told ≡ mid.contents.told = c.seal.ensures.frame.others.told in
-    let keeps = keeps_then g.S.SlotForm.slot_of (region_in device old) (region_in device begun)
-    (region_in device mid) c.start.ensures.images
-    (subst (λ (d : ℕ). KeepsSlots g.S.SlotForm.slot_of (region_in d begun) (region_in d mid)) same
-    c.put_all.ensures.images) in
-    seals_whole g.S.SlotForm.slot_of w last (length payload) payload bytes old mid new done all told
-    keeps c.seal.ensures.images
+    let mid = g.F.BenchState.state c.start.new.flash in
+    let new = g.F.BenchState.state c.finish.new.flash in
+    keeps_then_seals slot_of (held c.args.head.now c.args.dep.now payload) (region_in device old)
+    (region_in device mid) (region_in device new) c.start.ensures.images
+    (subst (λ (w : Writing). KeepsOrSeals slot_of (held w.head w.dep payload)
+    (region_in w.device mid) (region_in w.device new)) c.in_ok-writer.ensures.ok
+    c.finish.ensures.images)
 
 pub returns-clause-durable : goal.returns-clause-durable
 returns-clause-durable g c =
-    let device = c.args.device in
     let payload = c.args.payload.now in
-    let mid = g.F.BenchState.state c.put_all.new.flash in
-    let new = g.F.BenchState.state c.seal.new.flash in
-    let first = c.in_ok-writer.ensures.ok in
-    let w = started device c.args.head.now c.args.dep.now in
-    let writer = c.put_all.new.writer in
-    let last = g.S.SlotForm.writing writer in
-    let done = since_start last (g.S.SlotForm.writing c.in_ok-writer.writer) w (length payload)
-    c.in_ok-put_all.ensures.ok first in
-    let bytes = g.S.SlotForm.taken writer (region_in last.device mid).bytes in
-    let all : mid.contents.told ≡ true → bytes ≡ payload =
-    λ told. subst (λ (d : ℕ). g.S.SlotForm.taken writer (region_in d mid).bytes ≡ payload)
-    (sym (ap (λ (u : Writing). u.device) c.in_ok-put_all.ensures.ok))
-    (c.in_ok-put_all.ensures.taken (sym c.put_all.ensures.frame.others.told ∙ told)) in
-    let told : new.contents.told ≡ mid.contents.told = c.seal.ensures.frame.others.told in
-    durable_whole g.S.SlotForm.slot_of w last (length payload) payload bytes mid new done all told
-    c.in_ok-seal.ensures.durable
-
-pub returns-in_err-put_all-clause-frame : goal.returns-in_err-put_all-clause-frame
-returns-in_err-put_all-clause-frame g c =
-    let device = c.args.device in
-    let old = g.F.BenchState.state c.args.flash.now in
-    let begun = g.F.BenchState.state c.start.new.flash in
-    let mid = g.F.BenchState.state c.put_all.new.flash in
-    let first = c.in_ok-writer.ensures.ok in
-    let same : (g.S.SlotForm.writing c.in_ok-writer.writer).device ≡ device =
-    ap (λ (w : Writing). w.device) first in
-    changes_then (device + 2) old begun mid c.start.ensures.frame
-    (subst (λ (d : ℕ). ChangesDevice d begun mid) same c.put_all.ensures.frame)
-
-pub returns-in_err-seal-clause-frame : goal.returns-in_err-seal-clause-frame
-returns-in_err-seal-clause-frame g c =
-    let device = c.args.device in
-    let payload = c.args.payload.now in
-    let old = g.F.BenchState.state c.args.flash.now in
-    let begun = g.F.BenchState.state c.start.new.flash in
-    let mid = g.F.BenchState.state c.put_all.new.flash in
-    let new = g.F.BenchState.state c.seal.new.flash in
-    let first = c.in_ok-writer.ensures.ok in
-    let same : (g.S.SlotForm.writing c.in_ok-writer.writer).device ≡ device =
-    ap (λ (w : Writing). w.device) first in
-    let w = started device c.args.head.now c.args.dep.now in
-    let last = g.S.SlotForm.writing c.put_all.new.writer in
-    let done = since_start last (g.S.SlotForm.writing c.in_ok-writer.writer) w (length payload)
-    c.in_ok-put_all.ensures.ok first in
-    let frames = changes_then (device + 2) old begun mid c.start.ensures.frame
-    (subst (λ (d : ℕ). ChangesDevice d begun mid) same c.put_all.ensures.frame) in
-    changes_then (device + 2) old mid new frames
-    (subst (λ (u : Writing). ChangesDevice u.device mid new) done c.seal.ensures.frame)
+    let new = g.F.BenchState.state c.finish.new.flash in
+    on_ok c.finish.result
+    (subst (λ (w : Writing). IsDurable g.S.SlotForm.slot_of (held w.head w.dep payload)
+    (region_in w.device new)) c.in_ok-writer.ensures.ok) c.finish.ensures.durable
 
 pub returns-clause-frame : goal.returns-clause-frame
 returns-clause-frame g c =
-    let device = c.args.device in
+    let mid = g.F.BenchState.state c.start.new.flash in
+    let new = g.F.BenchState.state c.finish.new.flash in
+    changes_then (c.args.device + 2) (g.F.BenchState.state c.args.flash.now) mid new
+    c.start.ensures.frame
+    (subst (λ (w : Writing). ChangesDevice w.device mid new) c.in_ok-writer.ensures.ok
+    c.finish.ensures.frame)
+
+sets_by_finish : (may_write : ℕ → SlotHead → List ℕ → Places → Type 0) (told : Bool)
+    (size capacity : ℕ) (s : HeldSlot) (p : Places) (r : Result Unit SlotFault)
+    → may_write size s.head s.dep p → length s.payload ≤ capacity → FinishesAt told p s.payload r
+    → SetsOver may_write told size capacity s r
+sets_by_finish may_write told size capacity s p (Ok x) may fits h = fits
+sets_by_finish may_write told size capacity s p (Err Flash) may fits h = fits
+sets_by_finish may_write told size capacity s p (Err TooLarge) may fits h = absurd h
+sets_by_finish may_write told size capacity s p (Err (Apart at wrote read)) may fits h =
+    (fits, record { places = p; may = may; apart = h })
+
+pub returns-clause-refused : goal.returns-clause-refused
+returns-clause-refused g c = λ capacity long.
+    let told = (g.F.BenchState.state c.args.flash.now).contents.told in
     let payload = c.args.payload.now in
-    let old = g.F.BenchState.state c.args.flash.now in
-    let begun = g.F.BenchState.state c.start.new.flash in
-    let mid = g.F.BenchState.state c.put_all.new.flash in
-    let new = g.F.BenchState.state c.seal.new.flash in
-    let first = c.in_ok-writer.ensures.ok in
-    let same : (g.S.SlotForm.writing c.in_ok-writer.writer).device ≡ device =
-    ap (λ (w : Writing). w.device) first in
-    let w = started device c.args.head.now c.args.dep.now in
-    let last = g.S.SlotForm.writing c.put_all.new.writer in
-    let done = since_start last (g.S.SlotForm.writing c.in_ok-writer.writer) w (length payload)
-    c.in_ok-put_all.ensures.ok first in
-    let frames = changes_then (device + 2) old begun mid c.start.ensures.frame
-    (subst (λ (d : ℕ). ChangesDevice d begun mid) same c.put_all.ensures.frame) in
-    changes_then (device + 2) old mid new frames
-    (subst (λ (u : Writing). ChangesDevice u.device mid new) done c.seal.ensures.frame)
+    let s = held c.args.head.now c.args.dep.now payload in
+    let places = g.S.SlotForm.places c.in_ok-writer.writer in
+    let fits : length payload ≤ capacity = omega (arith, c.in_ok-writer.ensures.refused capacity long) in
+    let may = subst (λ (n : ℕ). g.S.SlotForm.may_write n c.args.head.now c.args.dep.now places) long
+    c.in_ok-writer.ensures.places in
+    sets_by_finish g.S.SlotForm.may_write told (g.S.SlotForm.size_of capacity) capacity s places
+    c.finish.result may fits
+    (subst (λ (t : Bool). FinishesAt t places payload c.finish.result) c.start.ensures.frame.others.told
+    c.finish.ensures.refused)
 
-pub returns-in_err-put_all-clause-refused : goal.returns-in_err-put_all-clause-refused
-returns-in_err-put_all-clause-refused g c = λ size long.
-    let told = (g.F.BenchState.state c.args.flash.now).contents.told in
-    let n = length c.args.payload.now in
-    let fault = c.in_err-put_all.field-0.0 in
-    let failed : Result Unit SlotFault = Err fault in
-    let gives : c.from_residual-in_err-put_all.result ≡ Err fault = search rules in
-    let fits : n ≤ size = omega (arith, c.in_ok-writer.ensures.refused size long) in
-    let another : ReadsAnother told failed =
-    subst (λ (t : Bool). ReadsAnother t failed) c.start.ensures.frame.others.told
-    c.in_err-put_all.ensures.refused in
-    subst (λ (r : Result Unit SlotFault). SetsOver told size n r) (sym gives)
-    (sets_by_another told size n failed fits another)
-
-pub returns-in_err-seal-clause-refused : goal.returns-in_err-seal-clause-refused
-returns-in_err-seal-clause-refused g c = λ size long.
-    let told = (g.F.BenchState.state c.args.flash.now).contents.told in
-    let mid = (g.F.BenchState.state c.put_all.new.flash).contents.told in
-    let n = length c.args.payload.now in
-    let fault = c.in_err-seal.field-0.0 in
-    let failed : Result Unit SlotFault = Err fault in
-    let gives : c.from_residual-in_err-seal.result ≡ Err fault = search rules in
-    let fits : n ≤ size = omega (arith, c.in_ok-writer.ensures.refused size long) in
-    let mid_told : mid ≡ told =
-    c.put_all.ensures.frame.others.told ∙ c.start.ensures.frame.others.told in
-    let another : ReadsAnother told failed =
-    subst (λ (t : Bool). ReadsAnother t failed) mid_told
-    (another_by_back mid _ _ failed c.in_err-seal.ensures.refused) in
-    subst (λ (r : Result Unit SlotFault). SetsOver told size n r) (sym gives)
-    (sets_by_another told size n failed fits another)
-
-pub returns-in_err-seal-clause-cause : goal.returns-in_err-seal-clause-cause
-returns-in_err-seal-clause-cause g c =
-    let old = (g.F.BenchState.state c.args.flash.now).counts.flash_faults in
-    let mid = (g.F.BenchState.state c.put_all.new.flash).counts.flash_faults in
-    let new = (g.F.BenchState.state c.seal.new.flash).counts.flash_faults in
-    let fault = c.in_err-seal.field-0.0 in
-    let failed : Result Unit SlotFault = Err fault in
-    let gives : c.from_residual-in_err-seal.result ≡ Err fault = search rules in
-    let later : old ≤ mid =
-    omega (arith, c.start.ensures.cause.later, c.put_all.ensures.cause.later) in
-    subst (λ (r : Result Unit SlotFault). HasCauseOf Flash old new r) (sym gives)
-    (cause_then old mid new failed later c.in_err-seal.ensures.cause)
+pub returns-clause-counts : goal.returns-clause-counts
+returns-clause-counts g c =
+    let n = pieces_of (length c.args.payload.now) in
+    spends_up_to_then 2 2 (4 + n) (1 + n) (6 + n) (3 + n) c.finish.result
+    (g.F.BenchState.state c.args.flash.now) (g.F.BenchState.state c.start.new.flash)
+    (g.F.BenchState.state c.finish.new.flash) (omega arith) (omega arith)
+    c.in_ok-writer.ensures.counts.moved c.start.ensures.counts.most_looks
+    c.start.ensures.counts.others c.finish.ensures.counts
 
 pub returns-clause-cause : goal.returns-clause-cause
 returns-clause-cause g c =
-    let old = (g.F.BenchState.state c.args.flash.now).counts.flash_faults in
-    let mid = (g.F.BenchState.state c.put_all.new.flash).counts.flash_faults in
-    let new = (g.F.BenchState.state c.seal.new.flash).counts.flash_faults in
-    let later : old ≤ mid =
-    omega (arith, c.start.ensures.cause.later, c.put_all.ensures.cause.later) in
-    cause_then old mid new (Ok tt) later c.in_ok-seal.ensures.cause
+    cause_then (g.F.BenchState.state c.args.flash.now).counts.flash_faults
+    (g.F.BenchState.state c.start.new.flash).counts.flash_faults
+    (g.F.BenchState.state c.finish.new.flash).counts.flash_faults c.finish.result
+    (omega (arith, c.start.ensures.cause.later)) c.finish.ensures.cause

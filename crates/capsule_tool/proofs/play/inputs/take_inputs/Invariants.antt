@@ -2,7 +2,7 @@ use Rattle.std.proofs.Common.{◌≡◌, ◌≤◌, take}
 use Rattle.std.specs.Prelude.{bytes_eq}
 use Rattle.cu_io.specs.Seen.{Follows}
 use Rattle.reference_machine.specs.Laws.{Distinct}
-use Rattle.capsule_tool.specs.Plays.{AreNamed, AreThinOn}
+use Rattle.capsule_tool.specs.Plays.{AreNamed, AreThinOn, input_work}
 use Rattle.capsule_tool.specs.declared.limits.TheConstants.{MAX_NAMED_BYTES}
 use Rattle.capsule_tool.proofs.ComingLaws.{HasCome}
 use Rattle.capsule_tool.proofs.play.inputs.take_inputs.Given as goal
@@ -10,7 +10,7 @@ use Rattle.capsule_tool.proofs.play.inputs.take_inputs.Given as goal
 -- the inputs before this one are loaded and thin, and the work has come to the others
 abbrev pub invariant-loop-name : goal.invariant-loop-name
 invariant-loop-name g l = record {
-  comes : HasCome (g.I.Inputs.seen l.fn.inputs).named l.fn.board l.fn.names
+  comes : HasCome (input_work l.fn.board) (g.I.Inputs.seen l.fn.inputs).named l.fn.names
       (g.I.Inputs.seen l.fn.inputs) l.loaded.items l.sum l.name-index (g.I.Inputs.seen l.inputs);
   loaded : AreNamed (take l.name-index l.fn.names) l.loaded.items;
   thin : AreThinOn l.fn.board l.loaded.items;

@@ -1,7 +1,7 @@
 use Rattle.std.proofs.lemmas.Fn.{filter_same}
 use Rattle.std.proofs.Common.{not, rules}
-use Rattle.reference_machine.specs.Machine.{File}
-use Rattle.reference_machine.specs.Names.{is_same_name}
+use Rattle.bench_model.specs.Files.{File}
+use Rattle.bench_model.specs.Files.{is_same_name}
 use Rattle.reset_play.proofs.thin_play.platform.forget.Goals as goal
 
 pub returns : goal.returns

@@ -1,4 +1,5 @@
-use Rattle.std.proofs.Common.{◌≡◌, ◌≤◌, ◌+◌, ◌∷◌, [], ◌++◌, ◌∙◌, ap, sym, subst, arith, List, ℕ, true}
+use Rattle.std.proofs.Common.{◌≡◌, ◌≤◌, ◌+◌, ◌∷◌, [], ◌++◌, ◌∙◌, ap, sym, subst, arith, List, ℕ}
+use Rattle.std.proofs.Common.{true}
 use Rattle.bench_model.specs.Regions.{IsImage}
 use Rattle.bench_model.specs.Bench.{IsRegionStable, region_at}
 use Rattle.var_log.specs.declared.limits.TheConstants.{CLOSED_GATE}

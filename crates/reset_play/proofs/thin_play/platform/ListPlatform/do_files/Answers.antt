@@ -1,6 +1,6 @@
 use Rattle.std.proofs.Common.{arith, IsTrue, sym, subst, ◌∙◌}
 use Rattle.bench_model.specs.Boards.{BoardValue}
-use Rattle.reference_machine.specs.Machine.{File}
+use Rattle.bench_model.specs.Files.{File}
 use Rattle.reset_play.specs.Plays.{is_thin_on}
 use Rattle.reset_play.specs.Whole.{between_tasks}
 use Rattle.reset_play.proofs.OneUnit.{all_at}

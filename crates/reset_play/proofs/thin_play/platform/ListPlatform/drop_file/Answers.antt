@@ -3,8 +3,9 @@ use Rattle.std.proofs.Common.{length, sym, ap, subst, ◌∙◌}
 use Rattle.std.specs.List.{list_any}
 use Rattle.bench_model.specs.declared.outside_limits.TheConstants.{MAX_FILES}
 use Rattle.reference_machine.specs.Events.{is_folder_full, plain}
-use Rattle.reference_machine.specs.Machine.{File, Machine}
-use Rattle.reference_machine.specs.Names.{is_same_name}
+use Rattle.bench_model.specs.Files.{File}
+use Rattle.reference_machine.specs.Machine.{Machine}
+use Rattle.bench_model.specs.Files.{is_same_name}
 use Rattle.reset_play.specs.Plays.{is_thin_on}
 use Rattle.reference_machine.specs.TraceValues.{entry_value}
 use Rattle.reference_machine.specs.TraceValues.AnswerValue.{Serial}

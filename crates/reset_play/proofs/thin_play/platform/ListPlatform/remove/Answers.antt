@@ -1,5 +1,5 @@
 use Rattle.std.proofs.Common.{not, ◌==◌, List, sym, subst}
-use Rattle.reference_machine.specs.Machine.{File}
+use Rattle.bench_model.specs.Files.{File}
 use Rattle.reset_play.specs.Whole.{IsListPlatform}
 use Rattle.reset_play.proofs.FolderFiles.{fewer_files}
 use Rattle.reset_play.proofs.thin_play.platform.ListPlatform.remove.Goals as goal

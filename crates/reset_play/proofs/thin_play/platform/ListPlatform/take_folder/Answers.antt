@@ -3,7 +3,8 @@ use Rattle.std.proofs.Common.{sym, ap, subst, ◌∙◌}
 use Rattle.std.specs.List.{list_all}
 use Rattle.bench_model.specs.Boards.{BoardValue}
 use Rattle.reference_machine.specs.Boots.{files_in_order}
-use Rattle.reference_machine.specs.Machine.{File, Machine}
+use Rattle.bench_model.specs.Files.{File}
+use Rattle.reference_machine.specs.Machine.{Machine}
 use Rattle.reference_machine.specs.Names.{is_taken_before}
 use Rattle.reference_machine.specs.Order.{in_order}
 use Rattle.reset_play.specs.Plays.{has_one_device, is_thin_on}

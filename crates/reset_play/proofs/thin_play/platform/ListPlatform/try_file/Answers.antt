@@ -5,7 +5,8 @@ use Rattle.reference_machine.specs.declared.unit.Kind.TheVariants.{Try}
 use Rattle.reference_machine.specs.Boots.{BootState, element_of}
 use Rattle.reference_machine.specs.Boots.BootTask.{Settles}
 use Rattle.reference_machine.specs.Formats.{Item}
-use Rattle.reference_machine.specs.Machine.{File, Machine, first_moment}
+use Rattle.bench_model.specs.Files.{File}
+use Rattle.reference_machine.specs.Machine.{Machine, first_moment}
 use Rattle.reset_play.specs.Plays.{is_thin_on}
 use Rattle.reference_machine.specs.Report.{report_value}
 use Rattle.reference_machine.specs.Spent.{Element, is_open}

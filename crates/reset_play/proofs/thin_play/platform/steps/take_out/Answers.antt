@@ -1,6 +1,6 @@
 use Rattle.std.proofs.lemmas.Fn.{filter_same}
 use Rattle.std.proofs.Common.{not, ◌==◌, rules}
-use Rattle.reference_machine.specs.Machine.{File}
+use Rattle.bench_model.specs.Files.{File}
 use Rattle.reset_play.proofs.thin_play.platform.steps.take_out.Goals as goal
 
 pub returns : goal.returns

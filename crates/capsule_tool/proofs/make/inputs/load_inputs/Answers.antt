@@ -1,0 +1,54 @@
+use Rattle.std.proofs.Common.{◌∙◌, arith}
+use Rattle.std.proofs.lemmas.Result.{err_from_is_err_and}
+use Rattle.capsule_tool.specs.Loads.{load_work}
+use Rattle.capsule_tool.proofs.ComingLaws.{come_on, come_stopped, come_done, item_drop, item_take}
+use Rattle.capsule_tool.proofs.ComingLaws.{drop_past}
+use Rattle.capsule_tool.proofs.NameLaws.{distinct_names, new_at, lacks_loaded}
+use Rattle.capsule_tool.proofs.make.inputs.load_inputs.Goals as goal
+
+pub load_input-requires-clause-new : goal.load_input-requires-clause-new
+load_input-requires-clause-new g c =
+    let i = c.loop-name.invariant in
+    let at = item_drop c.args.names.now c.loop-name.name-index c.name-item.result
+    c.loop-name-test.true c.name-item.is in
+    lacks_loaded c.loop-name.loaded.items c.name-item.result
+    (rw i.loaded
+    (new_at c.args.names.now c.loop-name.name-index c.name-item.result _
+    (distinct_names c.args.names.now i.distinct) at))
+
+pub returns-in_err-load_input-clause-steps : goal.returns-in_err-load_input-clause-steps
+returns-in_err-load_input-clause-steps g c =
+    let i = c.loop-name.invariant in
+    let at = item_drop c.args.names.now c.loop-name.name-index c.name-item.result
+    c.loop-name-test.true c.name-item.is in
+    let p = err_from_is_err_and c.from_residual.result c.from_residual.ensures.1 in λ next.
+    rw p.1
+    (come_stopped load_work c.args.names.now (g.I.Inputs.seen c.args.inputs.now)
+    c.loop-name.loaded.items c.loop-name.sum c.loop-name.name-index
+    (g.I.Inputs.seen c.loop-name.inputs) c.name-item.result
+    (g.I.Inputs.seen c.load_input.new.inputs) p.0 i.comes at i.follows.named
+    (λ rest. rw p.2 (c.in_err-load_input.ensures.steps rest)) next)
+
+pub loop-name-preserved : goal.loop-name-preserved
+loop-name-preserved g c =
+    let i = c.loop-name.invariant in
+    let at = item_drop c.args.names.now c.loop-name.name-index c.name-item.result
+    c.loop-name-test.true c.name-item.is in
+    record {
+      comes = come_on _ _ _ _ _ _ _ _ _ c.name-item.result _ _ _ i.comes at i.follows.named
+          (λ rest. c.in_ok-load_input.ensures.steps rest);
+      loaded = item_take c.args.names.now c.loop-name.name-index c.name-item.result
+          c.loop-name.loaded.items c.load_input.new.loaded.items c.loop-name-test.true
+          c.name-item.is c.in_ok-load_input.ensures.ok i.loaded;
+      small = c.load_input.ensures.bound;
+      distinct = i.distinct;
+      follows = record {
+        named = c.load_input.ensures.frame.named ∙ i.follows.named;
+        counts = omega (arith, i.follows.counts, c.load_input.ensures.frame.counts);
+      };
+    }
+
+pub returns-clause-steps : goal.returns-clause-steps
+returns-clause-steps g c = λ next.
+    come_done _ _ _ _ _ _ _ _ c.loop-name.invariant.comes
+    (drop_past c.args.names.now c.loop-name.name-index c.loop-name-test.false) next

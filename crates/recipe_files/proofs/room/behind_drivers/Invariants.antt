@@ -1,0 +1,13 @@
+use Rattle.std.proofs.Common.{◌≡◌, ◌+◌, length, drop, map}
+use Rattle.std.specs.List.{concat}
+use Rattle.recipe_files.specs.Builds.{drivers_of}
+use Rattle.recipe_files.specs.Room.{found}
+use Rattle.recipe_files.proofs.room.behind_drivers.Given as goal
+
+abbrev pub invariant-loop-name : goal.invariant-loop-name
+invariant-loop-name l = record {
+  behind : l.behind ≡ length (drop l.name-index l.drivers) + l.later;
+  room : l.left + length (concat (drivers_of l.later (map (found l.index) l.drivers)))
+      ≡ l.room
+      + length (concat (drivers_of l.later (map (found l.index) (drop l.name-index l.drivers))));
+}
