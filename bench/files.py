@@ -3,8 +3,8 @@
 
 Usage: python3 bench/files.py [PROGRAM]
 
-PROGRAM is crates/capsule_tool/out/capsule_tool unless another is named. Two files are made: a capsule of one
-item and one of 65,535 items; and `make` joins a payload to one. Each command runs nine times, and the least time counts; a ratio is that of the
+PROGRAM is crates/capsule_tool/out/capsule_tool unless another is named. Four files are made: capsules of one
+item and of 65,535 items, with pads and without; and `make` joins a payload to one. Each command runs nine times, and the least time counts; a ratio is that of the
 program to its yardstick. `dd bs=64M` is the yardstick of a program that reads a whole file into fresh memory;
 `dd` and `cp` in sum are that of one that keeps a file and then writes it. Memory is the greatest resident set,
 told by a process that holds little itself, since a process that is started counts what the one that starts it
@@ -26,12 +26,13 @@ TIME = "/usr/bin/time"
 LARGE_PAGES = "glibc.malloc.hugetlb=1"
 
 
-def capsule(items, image_bytes):
-    """An FMP capsule of this many version 1 images of this many bytes."""
+def capsule(items, image_bytes, pad_bytes):
+    """An FMP capsule of this many version 1 images of this many bytes, each with a pad of so many zeros."""
     body = struct.pack("<IHH", 1, 0, items)
     first = 8 + 8 * items
-    body += b"".join(struct.pack("<Q", first + k * (32 + image_bytes)) for k in range(items))
+    body += b"".join(struct.pack("<Q", first + k * (32 + image_bytes + pad_bytes)) for k in range(items))
     image = struct.pack("<I16sB3sII", 1, b"\xaa" * 16, 1, bytes(3), image_bytes, 0) + b"\x77" * image_bytes
+    image += bytes(pad_bytes)
     body += image * items
     return FMP + struct.pack("<III", 28, 0x50000, 28 + len(body)) + body
 
@@ -119,14 +120,15 @@ def compare_make(program, folder):
 def main():
     if sys.argv[1:2] == ["make"]:
         with open(sys.argv[2], "wb") as file:
-            file.write(capsule(int(sys.argv[3]), int(sys.argv[4])))
+            file.write(capsule(*map(int, sys.argv[3:6])))
         return
     program = os.path.abspath(sys.argv[1] if len(sys.argv) > 1 else PROGRAM)
     with tempfile.TemporaryDirectory() as folder:
-        for items, image_bytes in [(1, LIMIT - 76), (65_535, 984)]:
+        for items, image_bytes, pad_bytes in [(1, LIMIT - 76, 0), (1, LIMIT - 80, 4), (65_535, 984, 0), (65_535, 980, 4)]:
             path, copy = os.path.join(folder, "a.cap"), os.path.join(folder, "b.cap")
-            subprocess.run([sys.executable, __file__, "make", path, str(items), str(image_bytes)], check=True)
-            print(f"{items} items, {os.path.getsize(path)} bytes")
+            numbers = [str(items), str(image_bytes), str(pad_bytes)]
+            subprocess.run([sys.executable, __file__, "make", path, *numbers], check=True)
+            print(f"{items} items, each with a pad of {pad_bytes} bytes, {os.path.getsize(path)} bytes")
             compare(program, path, copy)
         compare_make(program, folder)
 

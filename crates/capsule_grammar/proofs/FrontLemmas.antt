@@ -1,5 +1,5 @@
 -- What the front of bytes tells of the whole.
-use Rattle.std.proofs.Common.{◌≡◌, ℕ, ◌+◌, ◌-◌, ◌*◌, ◌<◌, ◌≤◌, ◌||◌, min, not, ltb, List, [], ◌∷◌}
+use Rattle.std.proofs.Common.{◌≡◌, ℕ, ◌+◌, ◌-◌, ◌*◌, ◌<◌, ◌≤◌, min, not, ltb, List, [], ◌∷◌}
 use Rattle.std.proofs.Common.{◌++◌, length, take, drop, refl, sym, ap, ◌∙◌, ◌⊎◌, inl, inr, arith}
 use Rattle.std.proofs.lemmas.Bool.{cases_lt, cond-true, cond-false, lt-ltb, le-ltb}
 use Rattle.std.proofs.lemmas.Bool.Decides.{nat_tests}
@@ -171,6 +171,27 @@ image_refusal_same {head} {image} at b there =
     shorter_least 48 (image_header_size (image_version head)) b there
     (image_header_most (image_version head)) in
     rw (v, i, w, least, fixed, b.long) refl
+
+-- the same by the first 32 bytes of an item, or all of it
+abbrev pub image_rows_by_start : List ℕ → ℕ → ℕ → List (Row (ℕ × Why))
+image_rows_by_start start size at =
+    row_at (ltb size 32) at Short
+    ∷ row_at (not (is_image_version (image_version start))) at BadImageVersion
+    ∷ row_at (ltb size (image_header_size (image_version start))) at Short
+    ∷ row_at (ltb size (image_parts_size start)) (at + 24) ImageOutside
+    ∷ []
+
+pub image_refusal_by_start : {start image : List ℕ} {size : ℕ} (at : ℕ) → Begins start size image
+    → min 32 size ≤ length start
+    → first_refusal (image_rows image at) ≡ first_refusal (image_rows_by_start start size at)
+image_refusal_by_start {start} {image} at b there =
+    let v : image_version image ≡ image_version start =
+    number_least 32 0 4 b there (omega arith) in
+    let i : number_at image 24 4 ≡ number_at start 24 4 =
+    number_least 32 24 4 b there (omega arith) in
+    let w : number_at image 28 4 ≡ number_at start 28 4 =
+    number_least 32 28 4 b there (omega arith) in
+    rw (v, i, w, b.long) refl
 
 -- what is read of the header is what is read of the head
 pub image_header_rows_same : {head image : List ℕ} {size : ℕ} → Begins head size image

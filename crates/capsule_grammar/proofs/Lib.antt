@@ -5,6 +5,7 @@ pub mod Lists
 pub mod Read
 pub mod Spelled
 pub mod SizeLemmas
+pub mod PieceLemmas
 pub mod RebuiltLemmas
 pub mod SameLemmas
 pub mod Places

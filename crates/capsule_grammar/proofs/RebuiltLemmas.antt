@@ -190,10 +190,10 @@ pub whole_is : (bytes header ext body : List ℕ) (b : Body) (h : CapsuleHeader)
     → h.guid.bytes ≡ field bytes 0 16 → h.flags ≡ number_at bytes 20 4
     → h.header_size ≡ header_size bytes → h.image_size ≡ header_size bytes + length body
     → ext ≡ field bytes 28 (header_size bytes - 28)
-    → old ≡ [] → n1 ≡ old ++ header → n2 ≡ n1 ++ ext → n3 ≡ n2 ++ body
-    → n3 ≡ spelling (with_body bytes b)
+    → n1 ≡ old ++ header → n2 ≡ n1 ++ ext → n3 ≡ n2 ++ body
+    → n3 ≡ old ++ spelling (with_body bytes b)
 whole_is bytes header ext body b h old n1 n2 n3 front body_is header_is guid flags head size ext_is
-    none e1 e2 e3 =
+    e1 e2 e3 =
     let le : length (field bytes 28 (header_size bytes - 28)) ≡ header_size bytes - 28 =
     length-field bytes 28 (header_size bytes - 28)
     (omega (arith, front.low, front.within, front.there)) in
@@ -209,7 +209,6 @@ whole_is bytes header ext body b h old n1 n2 n3 front body_is header_is guid fla
     joined (capsule_header_bytes (header_of c)) header c.ext ext (body_bytes b) body
     (sym same ∙ sym header_is) (sym ext_is) (sym body_is) in
     three_grown old header ext body n1 n2 n3 (spelling c) e1 e2 e3 whole
-    ∙ ap (λ (l : List ℕ). l ++ spelling c) none
 
 pub emptied_is : (bytes : List ℕ) → is_fmp_guid (field bytes 0 16) ≡ true
     → emptied (capsule_of bytes) ≡ with_body bytes (Fmp (emptied_fmp (fmp_of (body_of bytes))))

@@ -3,6 +3,7 @@ pub mod BackToBack
 pub mod Faults
 pub mod Fits
 pub mod Fronts
+pub mod Pieces
 pub mod Reading
 pub mod Rebuilt
 pub mod Refusals

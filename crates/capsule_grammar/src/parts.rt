@@ -1,7 +1,7 @@
 //! The checks of the parts of a capsule, by their first bytes and their length. They speak of all
 //! bytes that have this front and this length, so who calls them need not have the rest.
 
-ghost use Rattle.std.specs.Prelude.{◌≡◌, ℕ, List, ◌+◌, ◌≤◌, ◌<◌, ◌^◌, OnOk, length, min};
+ghost use Rattle.std.specs.Prelude.{◌≡◌, ℕ, List, ◌+◌, ◌-◌, ◌*◌, ◌≤◌, ◌<◌, ◌^◌, OnOk, length, min};
 ghost use Rattle.cu_base.specs.Refusals.{first_refusal};
 ghost use Rattle.capsule_grammar.specs.Accepted.{AreBounds};
 ghost use Rattle.capsule_grammar.specs.Fronts.{Begins};
@@ -11,14 +11,20 @@ ghost use Rattle.capsule_grammar.specs.Refusals.{item_count, list_end, offset, o
 ghost use Rattle.capsule_grammar.specs.Refusals.{start_of};
 
 use crate::{Refusal, Why};
-use cu_base::{u16_at, u64_at};
+use cu_base::{u16_at, u32_at, u64_at};
 use fmp_headers::{
-    DRIVER_COUNT_AT, FMP_HEADER_BYTES, FmpHeader, HeaderFault, IMAGE_SIZE_AT, ITEM_COUNT_AT,
-    ImageHeader, image_header_size,
+    DRIVER_COUNT_AT, FMP_HEADER_BYTES, FmpHeader, HeaderFault, IMAGE_HEADER_BYTES, IMAGE_SIZE_AT,
+    ITEM_COUNT_AT, image_header_size, is_image_version,
 };
 
 /// The bytes of an offset in the offset list.
 pub const OFFSET_BYTES: u32 = 8;
+
+/// The place of Version in an image header.
+const VERSION_AT: usize = 0;
+
+/// The place of UpdateVendorCodeSize in an image header.
+const VENDOR_SIZE_AT: usize = 28;
 
 /// How many drivers the body has of which this is the front.
 pub fn driver_count(front: &[u8]) -> u16
@@ -97,6 +103,37 @@ fn offset(front: &[u8], k: u32) -> u64
     )
 }
 
+/// Whether one offset of a list is refused, by its number. It is offset `k` and `here` is its
+/// number, `before` is that of the offset before it, the list ends at `list` and the body has `size`
+/// bytes. Places count from `at`.
+pub fn check_one_offset(
+    k: u32,
+    here: u64,
+    before: u64,
+    list: u32,
+    size: u32,
+    at: u32,
+) -> Result<(), Refusal>
+    requires small { at + list < 2 ^ 31 }
+    requires there { 16 + 8 * k ≤ list }
+    ensures ok { OnOk result (here ≤ size) }
+    ensures refused { (body : List ℕ) → offset body k ≡ here → (0 < k → offset body (k - 1) ≡ before)
+        → list_end body ≡ list → length body ≡ size
+        → Answers result (first_refusal (offset_rows body at k)) }
+{
+    let why = if here < list as u64 || (size as u64) < here {
+        Why::OffsetsOutside
+    } else if k > 0 && here <= before {
+        Why::OffsetsNotRising
+    } else {
+        return Ok(());
+    };
+    Err(Refusal {
+        at: at + FMP_HEADER_BYTES + OFFSET_BYTES * k,
+        why,
+    })
+}
+
 /// The refusal of one offset, if it is refused.
 fn check_offset(front: &[u8], size: u32, at: u32, k: u32) -> Result<(), Refusal>
     requires small { at + size < 2 ^ 31 }
@@ -107,17 +144,16 @@ fn check_offset(front: &[u8], size: u32, at: u32, k: u32) -> Result<(), Refusal>
         Answers result (first_refusal (offset_rows body at k)) }
 {
     let here = offset(front, k);
-    let why = if here < list_end(front) as u64 || (size as u64) < here {
-        Why::OffsetsOutside
-    } else if k > 0 && here <= offset(front, k - 1) {
-        Why::OffsetsNotRising
-    } else {
-        return Ok(());
-    };
-    Err(Refusal {
-        at: at + FMP_HEADER_BYTES + OFFSET_BYTES * k,
-        why,
-    })
+    check_one_offset(k, here, offset_before(front, k), list_end(front), size, at)
+}
+
+/// The offset before offset `k`, where there is one.
+fn offset_before(front: &[u8], k: u32) -> u64
+    requires list { list_end front.now ≤ length front.now }
+    requires there { k < item_count front.now }
+    ensures { 0 < k → result ≡ offset front.now (k - 1) }
+{
+    if k > 0 { offset(front, k - 1) } else { 0 }
 }
 
 /// Whether an offset of a body is refused. `front` is the first bytes of the body with its offset
@@ -158,24 +194,41 @@ pub fn check_image(head: &[u8], size: u32, at: u32) -> Result<(), Refusal>
     ensures { (image : List ℕ) → Begins head.now size image →
         Answers result (first_refusal (image_rows image at)) }
 {
-    match ImageHeader::read(head) {
-        Ok(header) => {
-            let fixed = image_header_size(header.version) as u64;
-            if (size as u64) < fixed + header.image_size as u64 + header.vendor_size as u64 {
-                return Err(Refusal {
-                    at: at + IMAGE_SIZE_AT as u32,
-                    why: Why::ImageOutside,
-                });
-            }
-            Ok(())
-        }
-        Err(HeaderFault::BadImageVersion) => Err(Refusal {
+    check_image_start(head, size, at)
+}
+
+/// The same by the first 32 bytes of the item, or all: they tell version and sizes.
+pub fn check_image_start(start: &[u8], size: u32, at: u32) -> Result<(), Refusal>
+    requires there { min 32 size ≤ length start.now }
+    requires within { length start.now ≤ size }
+    requires small { at + size < 2 ^ 31 }
+    ensures { (image : List ℕ) → Begins start.now size image →
+        Answers result (first_refusal (image_rows image at)) }
+{
+    let short = Refusal {
+        at,
+        why: Why::Short,
+    };
+    if size < IMAGE_HEADER_BYTES {
+        return Err(short);
+    }
+    let version = u32_at(start, VERSION_AT);
+    if !is_image_version(version) {
+        return Err(Refusal {
             at,
             why: Why::BadImageVersion,
-        }),
-        Err(_) => Err(Refusal {
-            at,
-            why: Why::Short,
-        }),
+        });
     }
+    let fixed = image_header_size(version);
+    if size < fixed {
+        return Err(short);
+    }
+    let parts = u32_at(start, IMAGE_SIZE_AT) as u64 + u32_at(start, VENDOR_SIZE_AT) as u64;
+    if (size as u64) < fixed as u64 + parts {
+        return Err(Refusal {
+            at: at + IMAGE_SIZE_AT as u32,
+            why: Why::ImageOutside,
+        });
+    }
+    Ok(())
 }

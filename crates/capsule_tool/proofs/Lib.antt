@@ -1,9 +1,12 @@
 pub mod ComingLaws
+pub mod EndLaws
 pub mod FileLaws
 pub mod ImageLaws
 pub mod JudgeLaws
 pub mod MakeLaws
 pub mod NameLaws
+pub mod OutputLaws
+pub mod PlainLaws
 pub mod PlayLaws
 pub mod RunLaws
 pub mod ScanLaws

@@ -27,20 +27,20 @@ nil_cons is = cc
 heads : (a b : List ℕ) (xs ys : List (List ℕ)) → a ∷ xs ≡ b ∷ ys → a ≡ b
 heads a b xs ys is = ap (λ (l : List (List ℕ)). get_or l 0 a) is
 
-or_true_right : (a b : Bool) → b ≡ true → (a || b) ≡ true
+pub or_true_right : (a b : Bool) → b ≡ true → (a || b) ≡ true
 or_true_right true b is = refl
 or_true_right false b is = is
 
-or_false : (a b : Bool) → (a || b) ≡ false → (a ≡ false) × (b ≡ false)
+pub or_false : (a b : Bool) → (a || b) ≡ false → (a ≡ false) × (b ≡ false)
 or_false false false is = (refl, refl)
 or_false false true is = absurd (cc_false (sym is))
 or_false true b is = absurd (cc_false (sym is))
 
 -- equality of names
-same_name : (a b : List ℕ) → bytes_eq a b ≡ true → a ≡ b
+pub same_name : (a b : List ℕ) → bytes_eq a b ≡ true → a ≡ b
 same_name a b is = (bytes_eq-Decides a b).0 is
 
-eq_itself : (a : List ℕ) → bytes_eq a a ≡ true
+pub eq_itself : (a : List ℕ) → bytes_eq a a ≡ true
 eq_itself a = (bytes_eq-Decides a a).1 refl
 
 -- what holds of each name holds of the one at a place
@@ -108,7 +108,7 @@ once_at : (n name : List ℕ) (same : Bool) (names : List (List ℕ)) → bytes_
 once_at n name true names is then has = refl
 once_at n name false names is then has = filter_keeps n name (once names) is (then has)
 
-once_has : (name : List ℕ) (names : List (List ℕ)) → has_name name names ≡ true
+pub once_has : (name : List ℕ) (names : List (List ℕ)) → has_name name names ≡ true
     → has_name name (once names) ≡ true
 once_has name [] has = has
 once_has name (n ∷ names) has = once_at n name (bytes_eq n name) names refl (once_has name names)

@@ -18,8 +18,8 @@ use Rattle.capsule_tool.specs.declared.limits.TheConstants.{MAX_NAMED_BYTES}
 use Rattle.capsule_tool.specs.declared.status.Status.TheVariants.{Done}
 use Rattle.capsule_tool.specs.Answers.{later}
 use Rattle.capsule_tool.specs.Findings.{bare}
-use Rattle.capsule_tool.specs.Plays.{script_next, input_next, events_work, inputs_work, played}
-use Rattle.capsule_tool.specs.Plays.{played_as}
+use Rattle.capsule_tool.specs.Played.{played_as, played}
+use Rattle.capsule_tool.specs.Plays.{script_next, input_next, events_work, inputs_work}
 use Rattle.capsule_tool.specs.Works.{Work}
 use Rattle.capsule_tool.specs.Works.Work.{Finds}
 

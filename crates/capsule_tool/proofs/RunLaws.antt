@@ -2,7 +2,7 @@
 use Rattle.std.proofs.Common.{◌≡◌, ◌≢◌, ℕ, ◌+◌, ◌<◌, ◌≤◌, ◌⊎◌, inl, inr, Bool, true, false, cond}
 use Rattle.std.proofs.Common.{List, [], ◌∷◌, ◌++◌, length, Option, None, Some, refl, sym, ◌∙◌, ap}
 use Rattle.std.proofs.Common.{arith, nat_lt, ◌&&◌, not}
-use Rattle.std.specs.Prelude.{IsSomeAnd, sum_by, Result, Ok, Err}
+use Rattle.std.specs.Prelude.{IsSomeAnd, sum_by, Result, Ok, Err, ⊤, codes}
 use Rattle.std.specs.List.{list_all}
 use Rattle.std.proofs.lemmas.List.Sums.{sum_by-cons}
 use Rattle.bench_model.specs.Boards.{BoardValue}
@@ -34,11 +34,11 @@ use Rattle.cu_io.specs.Seen.{Seen}
 use Rattle.cu_io.specs.Streams.{SinkSeen, AppendsAll}
 use Rattle.capsule_tool.specs.Readings.{reading_of}
 use Rattle.capsule_tool.specs.Runs.{Writes, AnswersAsTold, IsUsage, IsUnread, IsLongOne, IsLong}
-use Rattle.capsule_tool.specs.Runs.{Judges, EndsBy}
+use Rattle.capsule_tool.specs.Runs.{Judges}
 use Rattle.capsule_tool.specs.Statuses.{code_of}
 use Rattle.capsule_tool.specs.Told.{word, work_by, work_of, told}
 use Rattle.capsule_tool.specs.Works.{Work, by_reading, told_by, Comes, ComesTo, EndsAt, MayFind}
-use Rattle.capsule_tool.specs.Works.Work.{Finds, Reads}
+use Rattle.capsule_tool.specs.Works.Work.{Finds, Plays, Reads}
 use Rattle.capsule_tool.specs.declared.answer.Answer.{Answer}
 use Rattle.capsule_tool.specs.declared.verdict.Verdict.{Verdict}
 use Rattle.capsule_tool.specs.declared.verdict.Verdict.TheVariants.{Whole as WholeCapsule, Refused}
@@ -55,7 +55,7 @@ use Rattle.capsule_tool.specs.declared.status.Status.TheVariants.{Memory, Later}
 use Rattle.capsule_tool.proofs.WorkLaws.{rose_on}
 
 -- a reading where no call failed and names are told
-within : (limit : ℕ) (bytes : List ℕ) → length bytes ≤ limit
+pub within : (limit : ℕ) (bytes : List ℕ) → length bytes ≤ limit
     → reading_of limit (Some bytes) ≡ Whole bytes
 within limit bytes short = grind arith
 
@@ -65,10 +65,11 @@ past limit None long = absurd long
 past limit (Some bytes) long = grind arith
 
 -- what a work finds is what it finds from where it comes to
-told_on : (named : Named) (readings : List (List ℕ)) (w w' : Work)
+pub told_on : (named : Named) (readings : List (List ℕ)) (w w' : Work)
     → Comes (Some named) readings w w' → told_by named w' ≡ told_by named w
 told_on named [] w w' comes = ap (told_by named) comes
 told_on named (bytes ∷ rest) (Finds finding) w' comes = absurd comes
+told_on named (bytes ∷ rest) (Plays board events loaded) w' comes = absurd comes
 told_on named (bytes ∷ rest) (Reads limit name next) w' (holds, short, comes) =
     told_on named rest (next bytes) w' comes
     ∙ sym (ap (by_reading name (λ bytes. told_by named (next bytes))) (ap (reading_of limit) holds
@@ -86,6 +87,7 @@ told_unread named limit name next m a finding (inr lacks) is calm =
 told_end : (named : Named) (w : Work) (m a : Seen) (finding : Finding)
     → EndsAt (Some named) w m a finding → ¬ Rose m.faults a.faults → finding ≡ told_by named w
 told_end named (Finds it) m a finding ends calm = absurd ends
+told_end named (Plays board events loaded) m a finding ends calm = absurd ends
 told_end named (Reads limit name next) m a finding (Whole bytes, read, decides) calm =
     absurd decides
 told_end named (Reads limit name next) m a finding (Unread, read, decides) calm =
@@ -98,7 +100,7 @@ rose_within : (b m a : ℕ) → b ≤ m → Rose m a → Rose b a
 rose_within b m a low rose = omega (arith, low, rose)
 
 -- what is found where no call failed and names are told
-found_told : (named : Named) (w : Work) (b a : Seen) (finding : Finding)
+pub found_told : (named : Named) (w : Work) (b a : Seen) (finding : Finding)
     → MayFind (Some named) w b a finding → ¬ Rose b.faults a.faults → finding ≡ told_by named w
 found_told named w b a finding (inl (readings, comes, took)) calm =
     told_on named readings w (Finds finding) comes
@@ -114,32 +116,40 @@ finds_reads : (finding : Finding) (limit : ℕ) (name : List ℕ) (next : List �
     → Finds finding ≡ Reads limit name next → ⊥
 finds_reads finding limit name next is = cc
 
--- what every end of a work has
-abbrev Ends : (Finding → Type 0) → Work → Type 0
+finds_plays : (finding : Finding) (board : BoardValue) (events : List Event) (loaded : Named)
+    → Finds finding ≡ Plays board events loaded → ⊥
+finds_plays finding board events loaded is = cc
+
+-- what every end of a work but a play has
+abbrev pub Ends : (Finding → Type 0) → Work → Type 0
 Ends P (Finds finding) = P finding
+Ends P (Plays board events loaded) = ⊤
 Ends P (Reads limit name next) = (bytes : List ℕ) → Ends P (next bytes)
 
 end_of : (P : Finding → Type 0) (named : Option Named) (readings : List (List ℕ)) (w : Work)
     (finding : Finding) → Comes named readings w (Finds finding) → Ends P w → P finding
 end_of P named [] (Finds it) finding comes ends = rw (finds_same finding it comes) ends
+end_of P named [] (Plays board events loaded) finding comes ends =
+    absurd (finds_plays finding board events loaded comes)
 end_of P named [] (Reads limit name next) finding comes ends =
     absurd (finds_reads finding limit name next comes)
 end_of P named (bytes ∷ rest) (Finds it) finding comes ends = absurd comes
+end_of P named (bytes ∷ rest) (Plays board events loaded) finding comes ends = absurd comes
 end_of P named (bytes ∷ rest) (Reads limit name next) finding (holds, short, comes) ends =
     end_of P named rest (next bytes) finding comes (ends bytes)
 
--- an end tells neither an unread input, nor words of no command, nor what only a write or want of
--- memory tells; a trace is of work that was done
+-- an end that is no play tells neither an unread input, nor words of no command, nor what only a write
+-- or want of memory tells, and has no trace
 record IsEnd (finding : Finding) : Type 0 where
   not2 : code_of finding.answer.status ≢ 2
   not4 : code_of finding.answer.status ≢ 4
   not5 : code_of finding.answer.status ≢ 5
   not6 : code_of finding.answer.status ≢ 6
-  traced : (finding.trace ≡ []) ⊎ (code_of finding.answer.status ≡ 0)
+  traced : finding.trace ≡ []
 
 bare_end : (answer : Answer) → code_of answer.status ≢ 2 → code_of answer.status ≢ 4
     → code_of answer.status ≢ 5 → code_of answer.status ≢ 6 → IsEnd (bare answer)
-bare_end answer a b c d = record { not2 = a; not4 = b; not5 = c; not6 = d; traced = inl refl }
+bare_end answer a b c d = record { not2 = a; not4 = b; not5 = c; not6 = d; traced = refl }
 
 verdict_end : (verdict : Verdict) → IsEnd (bare (verdict_answer verdict))
 verdict_end (WholeCapsule n) = bare_end _ (omega arith) (omega arith) (omega arith) (omega arith)
@@ -151,32 +161,30 @@ text_end (WholeCapsule n) text = bare_end _ (omega arith) (omega arith) (omega a
 text_end (Refused refusal) text = verdict_end (Refused refusal)
 text_end (Trailing at) text = verdict_end (Trailing at)
 
-input_ends : (board : BoardValue) (loaded : Named) (sum : ℕ) (name : List ℕ) (rest : Named → ℕ
+pub input_ends : (P : Finding → Type 0) (loaded : Named) (sum : ℕ) (name : List ℕ) (rest : Named → ℕ
     → Work) (bytes : List ℕ) (past thin : Bool)
-    → Ends IsEnd (rest (loaded ++ (name, bytes) ∷ []) (sum + length bytes))
-    → Ends IsEnd (cond past (Finds (bare (long name)))
+    → P (bare (long name)) → P (bare (later name))
+    → Ends P (rest (loaded ++ (name, bytes) ∷ []) (sum + length bytes))
+    → Ends P (cond past (Finds (bare (long name)))
     (cond thin (rest (loaded ++ (name, bytes) ∷ []) (sum + length bytes))
     (Finds (bare (later name)))))
-input_ends board loaded sum name rest bytes true thin ends =
-    bare_end _ (omega arith) (omega arith) (omega arith) (omega arith)
-input_ends board loaded sum name rest bytes false true ends = ends
-input_ends board loaded sum name rest bytes false false ends =
-    bare_end _ (omega arith) (omega arith) (omega arith) (omega arith)
+input_ends P loaded sum name rest bytes true thin at_long at_later ends = at_long
+input_ends P loaded sum name rest bytes false true at_long at_later ends = ends
+input_ends P loaded sum name rest bytes false false at_long at_later ends = at_later
+
+long_ends : (name : List ℕ) → IsEnd (bare (long name))
+long_ends name = bare_end _ (omega arith) (omega arith) (omega arith) (omega arith)
+
+later_ends : (name : List ℕ) → IsEnd (bare (later name))
+later_ends name = bare_end _ (omega arith) (omega arith) (omega arith) (omega arith)
 
 inputs_end : (board : BoardValue) (events : List Event) (loaded : Named) (sum : ℕ)
     (names : List (List ℕ)) → Ends IsEnd (inputs_work board events loaded sum names)
-inputs_end board events loaded sum [] = record {
-  not2 = omega arith;
-  not4 = omega arith;
-  not5 =
-      omega arith;
-  not6 = omega arith;
-  traced = inr refl;
-}
+inputs_end board events loaded sum [] = tt
 inputs_end board events loaded sum (name ∷ names) = λ bytes.
-    input_ends board loaded sum name (λ loaded' sum'. inputs_work board events loaded' sum' names)
-    bytes (nat_lt MAX_NAMED_BYTES (sum + length bytes)) (is_thin_on board bytes)
-    (inputs_end board events (loaded ++ (name, bytes) ∷ []) (sum + length bytes) names)
+    input_ends IsEnd loaded sum name (λ loaded' sum'. inputs_work board events loaded' sum' names)
+    bytes (nat_lt MAX_NAMED_BYTES (sum + length bytes)) (is_thin_on board bytes) (long_ends name)
+    (later_ends name) (inputs_end board events (loaded ++ (name, bytes) ∷ []) (sum + length bytes) names)
 
 events_end : (board : BoardValue) (name : List ℕ) (events : List Event) (files : Bool)
     → Ends IsEnd (cond files (inputs_work board events [] 0 (inputs_of events))
@@ -203,27 +211,31 @@ board_end name script (Err fault) = bare_end _ (omega arith) (omega arith) (omeg
 board_end name script (Ok board) =
     one_end board name script (has_one_device board && not board.two_banks)
 
-load_ends : (loaded : Named) (sum : ℕ) (name : List ℕ) (rest : Named → ℕ → Work)
-    (bytes : List ℕ) (past : Bool)
-    → Ends IsEnd (rest (loaded ++ (name, bytes) ∷ []) (sum + length bytes))
-    → Ends IsEnd (cond past (Finds (bare (long name)))
+pub load_ends : (P : Finding → Type 0) (loaded : Named) (sum : ℕ) (name : List ℕ)
+    (rest : Named → ℕ → Work) (bytes : List ℕ) (past : Bool) → P (bare (long name))
+    → Ends P (rest (loaded ++ (name, bytes) ∷ []) (sum + length bytes))
+    → Ends P (cond past (Finds (bare (long name)))
     (rest (loaded ++ (name, bytes) ∷ []) (sum + length bytes)))
-load_ends loaded sum name rest bytes true ends =
-    bare_end _ (omega arith) (omega arith) (omega arith) (omega arith)
-load_ends loaded sum name rest bytes false ends = ends
+load_ends P loaded sum name rest bytes true at_long ends = at_long
+load_ends P loaded sum name rest bytes false at_long ends = ends
 
-made_end : (sized : Bool) (text : List ℕ) → IsEnd (bare (cond sized (written text) long_capsule))
-made_end true text = bare_end _ (omega arith) (omega arith) (omega arith) (omega arith)
-made_end false text = bare_end _ (omega arith) (omega arith) (omega arith) (omega arith)
+pub made_ends : (P : Finding → Type 0) (sized : Bool) (text : List ℕ) → P (bare (written text))
+    → P (bare long_capsule) → P (bare (cond sized (written text) long_capsule))
+made_ends P true text at_written at_long = at_written
+made_ends P false text at_written at_long = at_long
+
+written_ends : (text : List ℕ) → IsEnd (bare (written text))
+written_ends text = bare_end _ (omega arith) (omega arith) (omega arith) (omega arith)
 
 making_end : (recipe : RecipeValue) (loaded : Named) (sum : ℕ) (names : List (List ℕ))
     → Ends IsEnd (making_work recipe loaded sum names)
 making_end recipe loaded sum [] =
-    made_end (is_sized (recipe_capsule (contents_of loaded) recipe))
-    (spelling (recipe_capsule (contents_of loaded) recipe))
+    made_ends IsEnd (is_sized (recipe_capsule (contents_of loaded) recipe))
+    (spelling (recipe_capsule (contents_of loaded) recipe)) (written_ends _)
+    (long_ends (codes "capsule"))
 making_end recipe loaded sum (name ∷ names) = λ bytes.
-    load_ends loaded sum name (λ loaded' sum'. making_work recipe loaded' sum' names) bytes
-    (nat_lt MAX_NAMED_BYTES (sum + length bytes))
+    load_ends IsEnd loaded sum name (λ loaded' sum'. making_work recipe loaded' sum' names) bytes
+    (nat_lt MAX_NAMED_BYTES (sum + length bytes)) (long_ends name)
     (making_end recipe (loaded ++ (name, bytes) ∷ []) (sum + length bytes) names)
 
 recipe_end : (said : Result RecipeValue (BadKind × List ℕ)) → Ends IsEnd (recipe_next said)
@@ -248,6 +260,7 @@ IsPast n finding = (MAX_NAMED_BYTES + 1 ≤ n) ⊎ (finding ≡ bare long_capsul
 -- n bytes were taken before
 abbrev Sums : ℕ → Work → Type 0
 Sums n (Finds finding) = code_of finding.answer.status ≡ 7 → IsPast n finding
+Sums n (Plays board events loaded) = ⊤
 Sums n (Reads limit name next) = (bytes : List ℕ) → Sums (n + length bytes) (next bytes)
 
 past_at : (m n : ℕ) (finding finding' : Finding) → m ≡ n → finding ≡ finding' → IsPast n finding'
@@ -262,9 +275,12 @@ sum_of n named [] (Finds it) finding comes sums is =
     let same : finding ≡ it = finds_same finding it comes in
     past_at _ n finding it (omega arith) same
     (sums (sym (ap (λ (f : Finding). code_of f.answer.status) same) ∙ is))
+sum_of n named [] (Plays board events loaded) finding comes sums is =
+    absurd (finds_plays finding board events loaded comes)
 sum_of n named [] (Reads limit name next) finding comes sums is =
     absurd (finds_reads finding limit name next comes)
 sum_of n named (bytes ∷ rest) (Finds it) finding comes sums is = absurd comes
+sum_of n named (bytes ∷ rest) (Plays board events loaded) finding comes sums is = absurd comes
 sum_of n named (bytes ∷ rest) (Reads limit name next) finding (holds, short, comes) sums is =
     past_at _ (n + length bytes + sum_by length rest) finding finding
     (omega (arith, sum_by-cons length bytes rest)) refl
@@ -296,7 +312,7 @@ input_sums n board loaded sum name rest bytes false false low is sums =
 
 inputs_sum : (n : ℕ) (board : BoardValue) (events : List Event) (loaded : Named) (sum : ℕ)
     (names : List (List ℕ)) → sum ≤ n → Sums n (inputs_work board events loaded sum names)
-inputs_sum n board events loaded sum [] low = λ is. absurd (omega (arith, is))
+inputs_sum n board events loaded sum [] low = tt
 inputs_sum n board events loaded sum (name ∷ names) low = λ bytes.
     input_sums n board loaded sum name (λ loaded' sum'. inputs_work board events loaded' sum' names)
     bytes (nat_lt MAX_NAMED_BYTES (sum + length bytes)) (is_thin_on board bytes)
@@ -395,7 +411,7 @@ coming_end (Some command) words named readings finding comes =
     inr (end_of IsEnd named readings (work_by (Some command) words) finding comes
     (command_ends command words))
 
-code_at : (a b : Finding) → a ≡ b → code_of a.answer.status ≡ code_of b.answer.status
+pub code_at : (a b : Finding) → a ≡ b → code_of a.answer.status ≡ code_of b.answer.status
 code_at a b same = ap (λ (x : Finding). code_of x.answer.status) same
 
 -- where an input decides, the status is 4 or 7
@@ -404,6 +420,7 @@ decided : (named : Option Named) (w : Work) (m a : Seen) (finding : Finding)
     → ((code_of finding.answer.status ≡ 4) ⊎ (code_of finding.answer.status ≡ 7))
     × (finding.trace ≡ [])
 decided named (Finds it) m a finding ends = absurd ends
+decided named (Plays board events loaded) m a finding ends = absurd ends
 decided named (Reads limit name next) m a finding (Whole bytes, read, decides) = absurd decides
 decided named (Reads limit name next) m a finding (Unread, read, decides) =
     (inl (code_at _ _ decides), ap (λ (x : Finding). x.trace) decides)
@@ -422,7 +439,7 @@ not_decided named w m a finding k ends is not4 not7 =
 
 -- a status that tells neither a failed write nor want of memory is that of what was found, and it
 -- was written
-written_as : (answer : Answer) (status k : ℕ) (w w' : SinkSeen) → Writes answer status w w'
+pub written_as : (answer : Answer) (status k : ℕ) (w w' : SinkSeen) → Writes answer status w w'
     → status ≡ k → k ≢ 5 → k ≢ 6
     → (code_of answer.status ≡ k) × AppendsAll w w' answer.text
 written_as answer status k w w' (inl (same, appends)) is not5 not6 = (sym same ∙ is, appends)
@@ -430,12 +447,12 @@ written_as answer status k w w' (inr (inl (same, rose, front))) is not5 not6 =
     absurd (not5 (sym is ∙ same))
 written_as answer status k w w' (inr (inr (same, front))) is not5 not6 = absurd (not6 (sym is ∙ same))
 
-appends_as : (a b : Finding) (w w' : SinkSeen) → a ≡ b → AppendsAll w w' a.answer.text
+pub appends_as : (a b : Finding) (w w' : SinkSeen) → a ≡ b → AppendsAll w w' a.answer.text
     → AppendsAll w w' b.answer.text
 appends_as a b w w' same appends = rw (ap (λ (x : Finding). x.answer.text) same) at appends
 
 -- the clauses of a run that found this and wrote it
-exact : (words : List (List ℕ)) (named : Named) (b a : Seen) (finding : Finding) (status : ℕ)
+pub exact : (words : List (List ℕ)) (named : Named) (b a : Seen) (finding : Finding) (status : ℕ)
     (w w' : SinkSeen)
     → finding ≡ told words named → Writes finding.answer status w w' → ¬ Rose w.faults w'.faults
     → AnswersAsTold (Some named) words status finding.trace w w'
@@ -449,16 +466,6 @@ exact words named b a finding status w w' is (inl (same, appends)) quiet =
 exact words named b a finding status w w' is (inr (inl (same, rose, front))) quiet =
     absurd (quiet rose)
 exact words named b a finding status w w' is (inr (inr (same, front))) quiet = inl same
-
-pub as_told : (named : Option Named) (words : List (List ℕ)) (b a : Seen) (finding : Finding)
-    (status : ℕ) (w w' : SinkSeen)
-    → MayFind named (work_of words) b a finding → Writes finding.answer status w w'
-    → ¬ Rose b.faults a.faults → ¬ Rose w.faults w'.faults
-    → AnswersAsTold named words status finding.trace w w'
-as_told None words b a finding status w w' found writes calm quiet = tt
-as_told (Some named) words b a finding status w w' found writes calm quiet =
-    exact words named b a finding status w w'
-    (found_told named (work_of words) b a finding found calm) writes quiet
 
 pub judged_run : (named : Option Named) (w0 : Work) (b a : Seen) (finding : Finding) (status k : ℕ)
     (w w' : SinkSeen)
@@ -516,6 +523,8 @@ unread_end : (named : Option Named) (w0 work : Work) (b m a : Seen) (finding : F
     → ComesTo named w0 b work m → EndsAt named work m a finding → code_of finding.answer.status ≡ 4
     → AppendsAll w w' finding.answer.text → IsUnread w0 named b a w w'
 unread_end named w0 (Finds it) b m a finding w w' comes ends code appends = absurd ends
+unread_end named w0 (Plays board events loaded) b m a finding w w' comes ends code appends =
+    absurd ends
 unread_end named w0 (Reads limit name next) b m a finding w w' comes (Whole bytes, read, decides)
     code appends = absurd decides
 unread_end named w0 (Reads limit name next) b m a finding w w' (readings, comes, took)
@@ -552,6 +561,8 @@ long_end : (named : Option Named) (w0 work : Work) (b m a : Seen) (finding : Fin
     → ComesTo named w0 b work m → EndsAt named work m a finding → code_of finding.answer.status ≡ 7
     → AppendsAll w w' finding.answer.text → IsLongOne w0 named b a w w'
 long_end named w0 (Finds it) b m a finding w w' comes ends code appends = absurd ends
+long_end named w0 (Plays board events loaded) b m a finding w w' comes ends code appends =
+    absurd ends
 long_end named w0 (Reads limit name next) b m a finding w w' comes (Whole bytes, read, decides) code
     appends = absurd decides
 long_end named w0 (Reads limit name next) b m a finding w w' comes (Unread, read, decides) code
@@ -622,41 +633,16 @@ small_run finding status w w' (inl (same, appends)) =
 small_run finding status w w' (inr (inl (same, rose, front))) = omega (arith, same)
 small_run finding status w w' (inr (inr (same, front))) = omega (arith, same)
 
--- a trace is empty but for work that was done
+-- only a play has a trace
 traced_end : (command : Option Command) (finding : Finding)
-    → ((command ≡ None) × (finding ≡ bare usage)) ⊎ IsEnd finding → (finding.trace ≡ [])
-    ⊎ (code_of finding.answer.status ≡ 0)
-traced_end command finding (inl (none, is)) = inl (ap (λ (x : Finding). x.trace) is)
+    → ((command ≡ None) × (finding ≡ bare usage)) ⊎ IsEnd finding → finding.trace ≡ []
+traced_end command finding (inl (none, is)) = ap (λ (x : Finding). x.trace) is
 traced_end command finding (inr end) = end.traced
 
-traced : (named : Option Named) (words : List (List ℕ)) (b a : Seen) (finding : Finding)
-    → MayFind named (work_of words) b a finding
-    → (finding.trace ≡ []) ⊎ (code_of finding.answer.status ≡ 0)
+pub traced : (named : Option Named) (words : List (List ℕ)) (b a : Seen) (finding : Finding)
+    → MayFind named (work_of words) b a finding → finding.trace ≡ []
 traced named words b a finding (inl (readings, comes, took)) =
     traced_end (command_of words) finding (coming_end (command_of words) words named readings
     finding comes)
 traced named words b a finding (inr (work, m, comes, ends)) =
-    inl (decided named work m a finding ends).1
-
-pub found_run : (named : Option Named) (words : List (List ℕ)) (b a : Seen) (finding : Finding)
-    (status : ℕ) (w w' : SinkSeen)
-    → MayFind named (work_of words) b a finding → Writes finding.answer status w w'
-    → EndsBy (work_of words) named b a status finding.trace w w'
-found_run named words b a finding status w w' found writes =
-    inl (finding, found, writes, refl, traced named words b a finding found)
-
-bare_by : (finding : Finding) (status : ℕ) (w w' : SinkSeen) → (finding.trace ≡ [])
-    ⊎ (code_of finding.answer.status ≡ 0)
-    → Writes finding.answer status w w' → (finding.trace ≡ [])
-    ⊎ ((status ≡ 0) ⊎ ((status ≡ 5) ⊎ (status ≡ 6)))
-bare_by finding status w w' (inl none) writes = inl none
-bare_by finding status w w' (inr zero_code) (inl (same, appends)) = inr (inl (same ∙ zero_code))
-bare_by finding status w w' (inr zero_code) (inr (inl (same, rose, front))) = inr (inr (inl same))
-bare_by finding status w w' (inr zero_code) (inr (inr (same, front))) = inr (inr (inr same))
-
-pub bare_run : (named : Option Named) (words : List (List ℕ)) (b a : Seen) (finding : Finding)
-    (status : ℕ) (w w' : SinkSeen)
-    → MayFind named (work_of words) b a finding → Writes finding.answer status w w'
-    → (finding.trace ≡ []) ⊎ ((status ≡ 0) ⊎ ((status ≡ 5) ⊎ (status ≡ 6)))
-bare_run named words b a finding status w w' found writes =
-    bare_by finding status w w' (traced named words b a finding found) writes
+    (decided named work m a finding ends).1

@@ -4,19 +4,25 @@ use Rattle.std.proofs.Common.{Option, refl, sym, ◌∙◌, ap, arith}
 use Rattle.std.specs.Prelude.{sum_by, Result, Ok, Err, IfOk, OnErr}
 use Rattle.std.proofs.lemmas.List.{append_assoc, append-nil}
 use Rattle.std.proofs.lemmas.List.Sums.{sum_by-append}
+use Rattle.bench_model.specs.Boards.{BoardValue}
+use Rattle.bench_model.specs.declared.counts.Counts.{Counts}
 use Rattle.cu_base.specs.Causes.{RoseBy}
 use Rattle.cu_base.specs.declared.limits.TheConstants.{MAX_CAPSULE_BYTES}
 use Rattle.cu_io.specs.Named.{Named}
 use Rattle.cu_io.specs.Seen.{Seen, MayAsk}
 use Rattle.cu_io.specs.declared.read.ReadFault.{ReadFault}
 use Rattle.cu_io.specs.declared.read.ReadFault.TheVariants as faults
+use Rattle.reference_machine.specs.declared.event.Event.{Event}
+use Rattle.reset_play.specs.Plays.{thin_trace}
 use Rattle.capsule_tool.specs.Findings.{Finding, bare}
 use Rattle.capsule_tool.specs.Readings.{Reading, WasRead, ReadsAs, JudgesAs}
 use Rattle.capsule_tool.specs.Readings.Reading.{Whole, Unread, Long}
-use Rattle.capsule_tool.specs.Steps.{StopsAt, StepsTo, IsStep, AnswersFault, judge_work}
+use Rattle.capsule_tool.specs.Played.{played}
+use Rattle.capsule_tool.specs.Steps.{StopsAt, StepsTo, EndsAs, IsStep, AnswersFault, judge_work}
 use Rattle.capsule_tool.specs.Verdicts.{verdict_of}
-use Rattle.capsule_tool.specs.Works.{Work, Comes, names_by, Took, ComesTo, EndsAt, MayFind, MayStop}
-use Rattle.capsule_tool.specs.Works.Work.{Finds, Reads}
+use Rattle.capsule_tool.specs.Works.{Work, Comes, names_by, Took, ComesTo, EndsAt, MayFind}
+use Rattle.capsule_tool.specs.Works.{MayEnd, MayStop}
+use Rattle.capsule_tool.specs.Works.Work.{Finds, Plays, Reads}
 use Rattle.capsule_tool.specs.declared.answer.Answer.{Answer}
 use Rattle.capsule_tool.specs.declared.stop.Stop.{Stop}
 use Rattle.capsule_tool.specs.declared.stop.Stop.TheVariants.{Answered, Memory}
@@ -34,6 +40,7 @@ comes_on : (named : Option Named) (readings more : List (List ℕ)) (w w' w'' : 
     → Comes named readings w w' → Comes named more w' w'' → Comes named (readings ++ more) w w''
 comes_on named [] more w w' w'' comes then = rw comes at then
 comes_on named (bytes ∷ rest) more (Finds finding) w' w'' comes then = absurd comes
+comes_on named (bytes ∷ rest) more (Plays board events loaded) w' w'' comes then = absurd comes
 comes_on named (bytes ∷ rest) more (Reads limit name next) w' w'' (holds, short, comes) then =
     (holds, short, comes_on named rest more (next bytes) w' w'' comes then)
 
@@ -42,6 +49,7 @@ names_on : (named : Option Named) (readings more : List (List ℕ)) (w w' : Work
     ++ names_by more w'
 names_on named [] more w w' comes = ap (names_by more) (sym comes)
 names_on named (bytes ∷ rest) more (Finds finding) w' comes = absurd comes
+names_on named (bytes ∷ rest) more (Plays board events loaded) w' comes = absurd comes
 names_on named (bytes ∷ rest) more (Reads limit name next) w' (holds, short, comes) =
     ap (λ (names : List (List ℕ)). name ∷ names) (names_on named rest more (next bytes) w' comes)
 
@@ -196,6 +204,32 @@ pub finds_as : (named : Option Named) (w : Work) (b a : Seen) (finding finding' 
     → finding ≡ finding' → ComesTo named w b (Finds finding') a
     → ComesTo named w b (Finds finding) a
 finds_as named w b a finding finding' is comes = rw is comes
+
+-- how a work ends
+pub plays_end : (named : Option Named) (w : Work) (b a : Seen) (k k' : Counts) (board : BoardValue)
+    (events : List Event) (loaded : Named) (finding : Finding)
+    → finding ≡ played board events loaded → ComesTo named w b (Plays board events loaded) a
+    → MayEnd named w b a k k' finding
+plays_end named w b a k k' board events loaded finding is comes =
+    inr (board, events, loaded, thin_trace board loaded events, comes, inr refl, is)
+
+pub finds_end : (w : Work) (b a : Seen) (k k' : Counts) (result : Result Finding Stop)
+    → StepsTo w (λ finding. Finds finding) b a result → EndsAs w b a k k' result
+finds_end w b a k k' (Ok finding) comes = inl (inl comes)
+finds_end w b a k k' (Err stop) stops = stops
+
+pub ends_as : (w w' : Work) (b a : Seen) (k k' : Counts) (result : Result Finding Stop) → w ≡ w'
+    → EndsAs w' b a k k' result → EndsAs w b a k k' result
+ends_as w w' b a k k' result same ends = rw same ends
+
+pub stops_end : (w : Work) (b a : Seen) (k k' : Counts) (stop : Stop) (result : Result Finding Stop)
+    → result ≡ Err stop → StopsAt w b a stop → EndsAs w b a k k' result
+stops_end w b a k k' stop result is stops = rw is stops
+
+pub short_end : (w : Work) (b : Seen) (w' : Work) (a : Seen) (k k' : Counts)
+    (result : Result Finding Stop) → result ≡ Err Memory → ComesTo b.named w b w' a
+    → EndsAs w b a k k' result
+short_end w b w' a k k' result is comes = rw is (stop_here b.named w b w' a comes)
 
 -- results
 pub lift : {X E : Type 0} (result : Result X E) (P Q : X → Type 0) → ((x : X) → P x → Q x)

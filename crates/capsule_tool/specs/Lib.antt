@@ -5,6 +5,9 @@ pub mod Findings
 pub mod Loads
 pub mod Makes
 pub mod Names
+pub mod Outputs
+pub mod Plain
+pub mod Played
 pub mod Plays
 pub mod Readings
 pub mod Runs

@@ -9,34 +9,17 @@ use Rattle.cu_base.specs.declared.limits.TheConstants.{MAX_CAPSULE_BYTES}
 use Rattle.cu_io.specs.Named.{Named}
 use Rattle.recipe_files.specs.Boards.{board_text}
 use Rattle.recipe_files.specs.declared.faults.BadKind.{BadKind}
-use Rattle.reset_play.specs.Plays.{has_one_device, is_of_files, is_thin_on, thin_trace}
+use Rattle.reset_play.specs.Plays.{has_one_device, is_of_files, is_thin_on}
 use Rattle.reset_play.specs.ScriptInputs.{inputs_of}
 use Rattle.reset_play.specs.ScriptText.{ScriptSaid, script_said}
-use Rattle.reset_play.specs.Texts.{trace_text}
-use Rattle.reference_machine.specs.TraceValues.{EntryValue}
 use Rattle.reference_machine.specs.declared.event.Event.{Event}
 use Rattle.capsule_tool.specs.declared.limits.TheConstants.{MAX_TEXT_BYTES, MAX_NAMED_BYTES}
-use Rattle.capsule_tool.specs.declared.status.Status.TheVariants.{Done}
 use Rattle.capsule_tool.specs.Answers.{faulty_board, faulty_script, later, long}
-use Rattle.capsule_tool.specs.Findings.{Finding, bare}
+use Rattle.capsule_tool.specs.Findings.{bare}
 use Rattle.capsule_tool.specs.Loads.{Loading, loads_work}
 use Rattle.capsule_tool.specs.Names.{file_kind, script_kind}
 use Rattle.capsule_tool.specs.Works.{Work}
-use Rattle.capsule_tool.specs.Works.Work.{Finds, Reads}
-
--- a play that told this of its events
-abbrev pub played_as : BoardValue → List Event → List EntryValue → Finding
-played_as board events trace = record {
-  answer = record {
-    status = Done;
-    text = trace_text board events (map (λ said. said.answer) trace);
-  };
-  trace = trace;
-}
-
--- the play of these events over the inputs that were read
-abbrev pub played : BoardValue → List Event → Named → Finding
-played board events loaded = played_as board events (thin_trace board loaded events)
+use Rattle.capsule_tool.specs.Works.Work.{Finds, Plays, Reads}
 
 -- what is done with an input by its bytes, where those before it are loaded and have this many
 -- bytes in sum: rest goes on
@@ -53,7 +36,7 @@ input_work board loaded sum name rest = Reads MAX_CAPSULE_BYTES name
 
 -- the inputs of these names, one after the other
 abbrev pub inputs_work : BoardValue → List Event → Named → ℕ → List (List ℕ) → Work
-inputs_work board events = loads_work (input_work board) (λ loaded. Finds (played board events loaded))
+inputs_work board events = loads_work (input_work board) (Plays board events)
 
 -- the inputs that these events name
 abbrev pub events_work : BoardValue → List Event → Work

@@ -3,6 +3,7 @@ ghost use Rattle.capsule_tool.specs.Answers.{usage, done, refused, faulty_board,
 ghost use Rattle.capsule_tool.specs.Answers.{faulty_script, later, unread, long};
 ghost use Rattle.capsule_tool.specs.Steps.{AnswersFault};
 
+use crate::output::Output;
 use crate::status::Status;
 use cu_base::{Blob, NoMemory, Text};
 use cu_io::ReadFault;
@@ -12,7 +13,7 @@ use std::alloc::Global;
 #[derive(Drop)]
 pub struct Answer {
     pub status: Status,
-    pub text: Blob,
+    pub text: Output,
 }
 
 const USAGE: &str =
@@ -25,7 +26,7 @@ impl Answer {
     {
         Ok(Answer {
             status: Status::Usage,
-            text: Blob::from_slice(alloc, USAGE.as_bytes())?,
+            text: Output::bytes(Blob::from_slice(alloc, USAGE.as_bytes())?),
         })
     }
 
@@ -125,7 +126,7 @@ impl Answer {
     {
         Ok(Answer {
             status,
-            text: Blob::from_slice(alloc, text.as_bytes())?,
+            text: Output::bytes(Blob::from_slice(alloc, text.as_bytes())?),
         })
     }
 }

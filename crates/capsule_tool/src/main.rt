@@ -15,6 +15,7 @@ mod laws;
 mod limits;
 mod make;
 mod names;
+mod output;
 mod play;
 mod program;
 mod rebuild;
@@ -28,7 +29,12 @@ mod verdict;
 
 use cu_base::{Names, NoMemory, Text};
 use cu_io::{FileInputs, StdSink};
-pub use laws::{limits_are_as_specified, shown_text_is_the_text, thin_deliveries_are_capsules};
+pub use laws::{
+    limits_are_as_specified, shown_text_is_the_text, thin_deliveries_are_capsules,
+    told_faults_are_those_of_texts, told_plays_are_those_of_the_machine,
+    told_refusals_are_verdicts,
+};
+use mem_bench::MemBench;
 pub use program::{Outcome, run};
 use status::Status;
 use std::alloc::Global;
@@ -41,8 +47,15 @@ fn main(rt: HostRuntime) -> ExitCode {
     match words_of(&rt) {
         Ok(words) => {
             let mut inputs = FileInputs::new(rt.alloc(), &rt);
+            let mut bench = MemBench::new(rt.alloc());
             let mut out = StdSink::new(io::writer(&rt));
-            let outcome = run(rt.alloc(), words.as_slice(), &mut inputs, &mut out);
+            let outcome = run(
+                rt.alloc(),
+                words.as_slice(),
+                &mut inputs,
+                &mut bench,
+                &mut out,
+            );
             ExitCode::from(outcome.status)
         }
         Err(NoMemory) => ExitCode::from(Status::Memory.code()),

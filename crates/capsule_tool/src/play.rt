@@ -1,11 +1,12 @@
 //! The command `play`: a platform of a board, through the events of a script.
 ghost use Rattle.std.specs.Prelude.{◌≡◌, ◌≤◌, IsTrue, length, IfOk};
 ghost use Rattle.std.specs.List.{list_all};
+ghost use Rattle.bench_model.specs.declared.counts.Counts.{Counts};
 ghost use Rattle.cu_io.specs.Seen.{Follows};
 ghost use Rattle.reset_play.specs.Plays.{has_one_device, can_play};
-ghost use Rattle.capsule_tool.specs.Plays.{play_work, played};
-ghost use Rattle.capsule_tool.specs.Steps.{StepsTo};
-ghost use Rattle.capsule_tool.specs.Works.Work.{Finds};
+ghost use Rattle.capsule_tool.specs.Played.{played};
+ghost use Rattle.capsule_tool.specs.Plays.{play_work};
+ghost use Rattle.capsule_tool.specs.Steps.{EndsAs};
 
 mod board;
 mod inputs;
@@ -13,6 +14,7 @@ mod script;
 
 use crate::answer::Answer;
 use crate::found::Found;
+use crate::output::Output;
 use crate::status::Status;
 use crate::stop::Stop;
 use bench_model::Board;
@@ -31,8 +33,8 @@ pub fn play<I: Inputs>(
     script: &Text,
     inputs: &mut I,
 ) -> Result<Found, Stop>
-    ensures steps { StepsTo (play_work board.now script.now) (λ found. Finds found)
-        (I.seen inputs.old) (I.seen inputs.new) result }
+    ensures ends { (counts counts' : Counts) → EndsAs (play_work board.now script.now)
+        (I.seen inputs.old) (I.seen inputs.new) counts counts' result }
     ensures frame { Follows (I.seen inputs.old) (I.seen inputs.new) }
 {
     let board = take_board(alloc, board, inputs)?;
@@ -54,7 +56,7 @@ fn played(alloc: Global, board: &Board, script: &Script, loaded: &Loaded) -> Res
     let text = trace_text(alloc, board, script, &trace)?;
     let answer = Answer {
         status: Status::Done,
-        text: Blob::from_slice(alloc, text.as_str().as_bytes())?,
+        text: Output::bytes(Blob::from_slice(alloc, text.as_str().as_bytes())?),
     };
     Ok(Found { answer, trace })
 }

@@ -6,7 +6,7 @@ ghost use Rattle.capsule_grammar.specs.Rebuilt.{emptied};
 ghost use Rattle.capsule_grammar.specs.Refusals.{refusal};
 ghost use Rattle.capsule_grammar.specs.Spelling.{spelling};
 ghost use Rattle.fmp_headers.specs.CapsuleHeader.{image_size};
-ghost use Rattle.capsule_tool.specs.Files.{rebuild_work, rebuild_answer, written};
+ghost use Rattle.capsule_tool.specs.Files.{rebuild_work, rebuild_answer};
 ghost use Rattle.capsule_tool.specs.Steps.{StepsTo};
 ghost use Rattle.capsule_tool.specs.Works.Work.{Finds};
 
@@ -14,10 +14,11 @@ use crate::answer::Answer;
 use crate::check::verdict_answer;
 use crate::found::Found;
 use crate::input::read_input;
+use crate::output::Output;
 use crate::status::Status;
 use crate::stop::Stop;
 use crate::verdict::{Verdict, judge};
-use capsule_grammar::{DecodeFault, is_rebuilt};
+use capsule_grammar::is_rebuilt;
 use cu_base::{Blob, MAX_CAPSULE_BYTES, NoMemory, Text};
 use cu_io::Inputs;
 use std::alloc::Global;
@@ -38,30 +39,24 @@ fn rebuild_bytes(alloc: Global, bytes: Blob) -> Result<Answer, NoMemory>
     ensures { IfOk result (λ answer. answer ≡ rebuild_answer bytes) }
 {
     match judge(bytes.as_slice()) {
-        Verdict::Whole(_) => rebuilt(alloc, bytes),
+        Verdict::Whole(_) => Ok(Answer {
+            status: Status::Done,
+            text: rebuilt(bytes),
+        }),
         Verdict::Refused(refusal) => verdict_answer(alloc, Verdict::Refused(refusal)),
         Verdict::Trailing(at) => verdict_answer(alloc, Verdict::Trailing(at)),
     }
 }
 
-/// The capsule that is these bytes without its lead and its pads. Where it has none, its bytes are
-/// not copied.
-fn rebuilt(alloc: Global, bytes: Blob) -> Result<Answer, NoMemory>
+/// The capsule that is these bytes without its lead and its pads.
+fn rebuilt(bytes: Blob) -> Output
     requires accepted { refusal bytes ≡ None }
     requires whole { length bytes ≤ image_size bytes }
-    ensures { IfOk result
-        (λ answer. answer ≡ written (spelling (emptied (capsule_of bytes)))) }
+    ensures { result ≡ spelling (emptied (capsule_of bytes)) }
 {
-    let status = Status::Done;
     if is_rebuilt(bytes.as_slice()) {
-        return Ok(Answer {
-            status,
-            text: bytes,
-        });
-    }
-    match capsule_grammar::rebuild(alloc, bytes.as_slice()) {
-        Ok(text) => Ok(Answer { status, text }),
-        Err(DecodeFault::Memory) => Err(NoMemory),
-        Err(DecodeFault::Refused(_)) => unreachable!(),
+        Output::bytes(bytes)
+    } else {
+        Output::rebuilt(bytes)
     }
 }

@@ -11,6 +11,7 @@ use crate::answer::Answer;
 use crate::check::verdict_answer;
 use crate::found::Found;
 use crate::input::read_input;
+use crate::output::Output;
 use crate::status::Status;
 use crate::stop::Stop;
 use crate::verdict::{Verdict, judge};
@@ -50,7 +51,7 @@ fn shown(alloc: Global, bytes: &[u8]) -> Result<Answer, NoMemory>
     match show_text(alloc, bytes) {
         Ok(text) => Ok(Answer {
             status: Status::Done,
-            text,
+            text: Output::bytes(text),
         }),
         Err(DecodeFault::Memory) => Err(NoMemory),
         Err(DecodeFault::Refused(_)) => unreachable!(),

@@ -90,7 +90,8 @@ fn run_words<I: Inputs, O: Sink>(
     for word in words {
         list.push(Text::from_str(alloc, *word)?)?;
     }
-    Ok(run(alloc, list.as_slice(), inputs, out))
+    let mut bench = MemBench::new(alloc);
+    Ok(run(alloc, list.as_slice(), inputs, &mut bench, out))
 }
 
 /// The numbers of the calls that fail: of opening, of reading at each source, and of writing.

@@ -16,7 +16,7 @@ use Rattle.image_parts.specs.Values.{PartsValue}
 
 -- ---- sections
 
-one_length : (bytes : List ℕ) (n m : ℕ) → BeginsWithSection bytes n → BeginsWithSection bytes m
+pub one_length : (bytes : List ℕ) (n m : ℕ) → BeginsWithSection bytes n → BeginsWithSection bytes m
     → n ≡ m
 one_length bytes n m h k =
     let whole : take n bytes ++ drop n bytes ≡ take m bytes ++ drop m bytes =

@@ -18,7 +18,7 @@ use Rattle.image_parts.specs.Values.{PartsValue}
 use Rattle.image_parts.proofs.Spelled.{cut_is_parts}
 
 -- a section that may be due is there or refused
-abbrev Taken : Bool → List ℕ → Type 0
+abbrev pub Taken : Bool → List ℕ → Type 0
 Taken due bytes = ((size : ℕ) × TakesSection due bytes size)
     ⊎ ((due ≡ true) × ((place : ℕ) × (cause : DepWhy) × dep.IsRefused bytes place cause))
 
@@ -33,7 +33,7 @@ there_or_refused bytes (inl (items, size, h)) =
     )
 there_or_refused bytes (inr r) = inr (refl, r)
 
-taken : (due : Bool) (bytes : List ℕ) → IsBytes bytes → Taken due bytes
+pub taken : (due : Bool) (bytes : List ℕ) → IsBytes bytes → Taken due bytes
 taken true bytes is = there_or_refused bytes (dep_proofs.section_or_refused_lemma bytes is)
 taken false bytes is = inl (0, refl)
 

@@ -1,6 +1,12 @@
 pub mod Apart
 pub mod Decided
 pub mod Found
+pub mod Kept
+pub mod Lists
 pub mod Places
 pub mod Read
+pub mod Scanned
 pub mod Spelled
+pub mod Texts
+pub mod Walks
+pub mod Windows

@@ -23,14 +23,14 @@ use Rattle.image_parts.specs.Authentication.{authentication_bytes, authenticatio
 use Rattle.image_parts.specs.Authentication.{authentication_size, certificate_size}
 
 -- what holds of authentication data that no row refuses
-record IsSound (image : List ℕ) : Type 0 where
+pub record IsSound (image : List ℕ) : Type 0 where
   pub long : 32 ≤ length image
   pub low : 24 ≤ certificate_size image
   pub within : authentication_size image ≤ length image
   pub revision : number_at image 12 2 ≡ 0x0200
   pub kind : number_at image 14 2 ≡ 0x0EF1
 
-sound : (image : List ℕ) → first_refusal (authentication_rows image) ≡ None → IsSound image
+pub sound : (image : List ℕ) → first_refusal (authentication_rows image) ≡ None → IsSound image
 sound image e =
     let r = passed (authentication_rows image) e in
     let bad = or_parts _ _ r.1.0 in
@@ -85,7 +85,7 @@ is_authentication image is h = record {
 
 -- ---- authentication data that may be due
 
-auth_is : (due : Bool) (image : List ℕ) → IsBytes image
+pub auth_is : (due : Bool) (image : List ℕ) → IsBytes image
     → first_refusal (cond due (authentication_rows image) []) ≡ None
     → auth_bytes (cond due (Some (authentication_at image)) None) ≡ take
     (cond due (authentication_size image) 0) image
@@ -104,7 +104,7 @@ there_where_due false x = refl
 
 -- ---- a section that may be due
 
-dep_is : (due : Bool) (image : List ℕ) (start size : ℕ) → TakesSection due (drop start image) size
+pub dep_is : (due : Bool) (image : List ℕ) (start size : ℕ) → TakesSection due (drop start image) size
     → dep_bytes (cond due (Some (field image start size)) None) ≡ field image start size
 dep_is true image start size h = refl
 dep_is false image start size h = rw h refl

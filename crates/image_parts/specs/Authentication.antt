@@ -18,10 +18,10 @@ certificate_size image = number_at image 8 4
 abbrev pub authentication_size : List ℕ → ℕ
 authentication_size image = 8 + certificate_size image
 
--- dwLength below the fields that it counts, or past the end of the image
-abbrev pub has_bad_length : List ℕ → Bool
-has_bad_length image =
-    nat_lt (certificate_size image) 24 || nat_lt (length image) (authentication_size image)
+-- dwLength below the fields that it counts, or past the end of an image of this size
+abbrev pub has_bad_length : List ℕ → ℕ → Bool
+has_bad_length front size =
+    nat_lt (certificate_size front) 24 || nat_lt size (authentication_size front)
 
 -- the rows of wRevision and wCertificateType
 abbrev pub certificate_rows : List ℕ → List (Row (ℕ × PartWhy))
@@ -30,12 +30,16 @@ certificate_rows image =
     ∷ row_at (not (number_at image 14 2 == 0x0EF1)) 14 BadCertType
     ∷ []
 
+-- when authentication data is refused, in order, in an image of this size that has this front
+abbrev pub authentication_rows_of : List ℕ → ℕ → List (Row (ℕ × PartWhy))
+authentication_rows_of front size =
+    row_at (nat_lt size 32) 0 ShortAuth
+    ∷ row_at (has_bad_length front size) 8 BadAuthLength
+    ∷ certificate_rows front
+
 -- when authentication data is refused, in order
 abbrev pub authentication_rows : List ℕ → List (Row (ℕ × PartWhy))
-authentication_rows image =
-    row_at (nat_lt (length image) 32) 0 ShortAuth
-    ∷ row_at (has_bad_length image) 8 BadAuthLength
-    ∷ certificate_rows image
+authentication_rows image = authentication_rows_of image (length image)
 
 -- the fields at their places, and CertData up to the end that dwLength gives
 abbrev pub authentication_at : List ℕ → AuthValue

@@ -1,10 +1,11 @@
 -- The parts of an update image by their places: where each begins and ends by what the ones before
 -- it say.
-use Rattle.std.specs.Prelude.{◌≡◌, ℕ, ◌+◌, ◌-◌, List, [], drop, Option, None, Some, if◌then◌else◌}
+use Rattle.std.specs.Prelude.{◌≡◌, ℕ, ◌+◌, ◌-◌, List, [], length, drop, Option, None, Some}
+use Rattle.std.specs.Prelude.{if◌then◌else◌}
 use Rattle.cu_base.specs.Fields.{field}
 use Rattle.cu_base.specs.Refusals.{Row, first_refusal}
 use Rattle.image_parts.specs.declared.fault.PartWhy.{PartWhy}
-use Rattle.image_parts.specs.Authentication.{authentication_at, authentication_rows}
+use Rattle.image_parts.specs.Authentication.{authentication_at, authentication_rows_of}
 use Rattle.image_parts.specs.Authentication.{authentication_size}
 use Rattle.image_parts.specs.PayloadHeader.{header_size, payload_head_at, payload_header_rows}
 use Rattle.image_parts.specs.Section.{TakesSection}
@@ -23,9 +24,14 @@ auth_at image support = if has_authentication support then Some (authentication_
 abbrev pub behind_auth : List ℕ → ℕ → List ℕ
 behind_auth image support = drop (auth_end image support) image
 
+-- the rows of the authentication data, where it is due, of an image of this size that has this front
+abbrev pub auth_rows_of : List ℕ → ℕ → ℕ → List (Row (ℕ × PartWhy))
+auth_rows_of front size support =
+    if has_authentication support then authentication_rows_of front size else []
+
 -- the rows of the authentication data, where it is due
 abbrev pub auth_rows : List ℕ → ℕ → List (Row (ℕ × PartWhy))
-auth_rows image support = if has_authentication support then authentication_rows image else []
+auth_rows image support = auth_rows_of image (length image) support
 
 -- the section of this length at a place, where one is due
 abbrev pub dep_at : List ℕ → ℕ → ℕ → ℕ → Option (List ℕ)

@@ -4,6 +4,8 @@ pub mod Cuts
 pub mod Parts
 pub mod PayloadHeader
 pub mod Refusals
+pub mod Scan
 pub mod Section
+pub mod Spans
 pub mod Support
 pub mod Values

@@ -19,18 +19,22 @@ signature = 0x4D ∷ 0x53 ∷ 0x53 ∷ 0x31 ∷ []
 abbrev pub header_size : List ℕ → ℕ
 header_size rest = number_at rest 4 4
 
--- HeaderSize below 16 or past the end
-abbrev pub has_bad_size : List ℕ → Bool
-has_bad_size rest = nat_lt (header_size rest) 16 || nat_lt (length rest) (header_size rest)
+-- HeaderSize below 16 or past the end of so many bytes
+abbrev pub has_bad_size : List ℕ → ℕ → Bool
+has_bad_size front size = nat_lt (header_size front) 16 || nat_lt size (header_size front)
 
--- when the payload header at the front of bytes is refused, in order; the bytes begin at this place
--- of the image
-abbrev pub payload_header_rows : List ℕ → ℕ → List (Row (ℕ × PartWhy))
-payload_header_rows rest at =
-    row_at (nat_lt (length rest) 16) at ShortPayloadHeader
-    ∷ row_at (not (bytes_eq (field rest 0 4) signature)) at BadSignature
-    ∷ row_at (has_bad_size rest) (at + 4) BadPayloadHeaderSize
+-- when the payload header at the front of so many bytes is refused, in order; the bytes begin at
+-- this place of the image
+abbrev pub payload_header_rows_of : List ℕ → ℕ → ℕ → List (Row (ℕ × PartWhy))
+payload_header_rows_of front size at =
+    row_at (nat_lt size 16) at ShortPayloadHeader
+    ∷ row_at (not (bytes_eq (field front 0 4) signature)) at BadSignature
+    ∷ row_at (has_bad_size front size) (at + 4) BadPayloadHeaderSize
     ∷ []
+
+-- when the payload header at the front of bytes is refused, in order
+abbrev pub payload_header_rows : List ℕ → ℕ → List (Row (ℕ × PartWhy))
+payload_header_rows rest at = payload_header_rows_of rest (length rest) at
 
 -- the fields at their places
 abbrev pub payload_head_at : List ℕ → PayloadHead

@@ -16,6 +16,11 @@ pub record BeginsWithSection (bytes : List ℕ) (size : ℕ) : Type 0 where
   pub there : size ≤ length bytes
   pub section : IsOneSection (take size bytes)
 
+-- a section of some length stands there
+pub record BeginsWithSome (bytes : List ℕ) : Type 0 where
+  pub size : ℕ
+  pub begins : BeginsWithSection bytes size
+
 -- so many bytes of the front are the section: its length where one is due, and none where none is
 abbrev pub TakesSection : Bool → List ℕ → ℕ → Type 0
 TakesSection true bytes size = BeginsWithSection bytes size

@@ -1,11 +1,12 @@
 //! The authentication data at the front of an image.
 
-ghost use Rattle.std.specs.Prelude.{◌≡◌, ◌≤◌, length, IfOk, option_map};
+ghost use Rattle.std.specs.Prelude.{◌≡◌, ◌≤◌, ◌<◌, ◌^◌, length, IfOk, IsTrue, option_map};
 ghost use Rattle.cu_base.specs.Refusals.{first_refusal};
-ghost use Rattle.image_parts.specs.Authentication.{authentication_at, authentication_rows};
+ghost use Rattle.image_parts.specs.Authentication.{authentication_at, authentication_rows_of};
 ghost use Rattle.image_parts.specs.Authentication.{authentication_size, certificate_rows};
-ghost use Rattle.image_parts.specs.Cuts.{auth_at, auth_end, auth_rows};
+ghost use Rattle.image_parts.specs.Cuts.{auth_at, auth_end, auth_rows, auth_rows_of};
 ghost use Rattle.image_parts.specs.Refusals.{Answers};
+ghost use Rattle.image_parts.specs.Support.{has_authentication};
 ghost use Rattle.image_parts.specs.Values.{auth_seen};
 
 use crate::support::has_authentication;
@@ -13,7 +14,7 @@ use crate::{AuthParts, PartFault, PartWhy};
 use cu_base::{guid_at, u16_at, u32_at, u64_at};
 
 /// The bytes up to CertData: MonotonicCount and the fields of WIN_CERTIFICATE_UEFI_GUID.
-const AUTHENTICATION_BYTES: usize = 32;
+pub const AUTHENTICATION_BYTES: usize = 32;
 
 /// The place of MonotonicCount.
 const MONOTONIC_COUNT_AT: usize = 0;
@@ -49,37 +50,63 @@ pub fn read_auth(image: &[u8], support: u64) -> Result<(Option<AuthParts<'_>>, u
     if !has_authentication(support) {
         return Ok((None, 0));
     }
-    let end = check_authentication(image)?;
+    let end = check_authentication(image, image.len())?;
     Ok((Some(authentication_at(image, end)), end))
 }
 
-/// Where the authentication data ends, or what is wrong with it.
-fn check_authentication(image: &[u8]) -> Result<usize, PartFault>
-    ensures rows { Answers result (first_refusal (authentication_rows image.now)) }
-    ensures end { IfOk result (λ n. n ≡ authentication_size image.now) }
-    ensures fields { IfOk result (λ n. AUTHENTICATION_BYTES ≤ n) }
-    ensures within { IfOk result (λ n. n ≤ length image.now) }
+/// Where the authentication data at the front of an image of `size` bytes ends: at its start where
+/// none is due.
+pub fn auth_size(front: &[u8], size: usize, support: u64) -> Result<usize, PartFault>
+    requires front { AUTHENTICATION_BYTES ≤ size → AUTHENTICATION_BYTES ≤ length front.now }
+    ensures rows { Answers result (first_refusal (auth_rows_of front.now size support)) }
+    ensures end { IfOk result (λ n. n ≡ auth_end front.now support) }
+    ensures fields { IfOk result (λ n. IsTrue (has_authentication support) → AUTHENTICATION_BYTES ≤ n) }
+    ensures within { IfOk result (λ n. n ≤ size) }
 {
-    if image.len() < AUTHENTICATION_BYTES {
+    if !has_authentication(support) {
+        return Ok(0);
+    }
+    check_authentication(front, size)
+}
+
+/// Where the authentication data ends, or what is wrong with it. `front` has the fields of an image
+/// of `size` bytes.
+fn check_authentication(front: &[u8], size: usize) -> Result<usize, PartFault>
+    requires front { AUTHENTICATION_BYTES ≤ size → AUTHENTICATION_BYTES ≤ length front.now }
+    ensures rows { Answers result (first_refusal (authentication_rows_of front.now size)) }
+    ensures end { IfOk result (λ n. n ≡ authentication_size front.now) }
+    ensures fields { IfOk result (λ n. AUTHENTICATION_BYTES ≤ n) }
+    ensures within { IfOk result (λ n. n ≤ size) }
+{
+    if size < AUTHENTICATION_BYTES {
         return Err(PartFault::new(0, PartWhy::ShortAuth));
     }
-    let end = BEFORE_LENGTH + u32_at(image, LENGTH_AT) as usize;
-    if end < AUTHENTICATION_BYTES || image.len() < end {
+    let end = stated_end(front);
+    if end < AUTHENTICATION_BYTES || size < end {
         return Err(PartFault::new(LENGTH_AT as u32, PartWhy::BadAuthLength));
     }
-    check_certificate(image)?;
+    check_certificate(front)?;
     Ok(end)
 }
 
-/// Whether wRevision and wCertificateType are those of WIN_CERTIFICATE_UEFI_GUID.
-fn check_certificate(image: &[u8]) -> Result<(), PartFault>
-    requires { AUTHENTICATION_BYTES ≤ length image.now }
-    ensures { Answers result (first_refusal (certificate_rows image.now)) }
+/// Where the authentication data ends by its dwLength.
+pub fn stated_end(front: &[u8]) -> usize
+    requires { AUTHENTICATION_BYTES ≤ length front.now }
+    ensures value { result ≡ authentication_size front.now }
+    ensures bound { result < 2 ^ 33 }
 {
-    if u16_at(image, REVISION_AT) != REVISION {
+    BEFORE_LENGTH + u32_at(front, LENGTH_AT) as usize
+}
+
+/// Whether wRevision and wCertificateType are those of WIN_CERTIFICATE_UEFI_GUID.
+fn check_certificate(front: &[u8]) -> Result<(), PartFault>
+    requires { AUTHENTICATION_BYTES ≤ length front.now }
+    ensures { Answers result (first_refusal (certificate_rows front.now)) }
+{
+    if u16_at(front, REVISION_AT) != REVISION {
         return Err(PartFault::new(REVISION_AT as u32, PartWhy::BadRevision));
     }
-    if u16_at(image, CERTIFICATE_TYPE_AT) != CERTIFICATE_TYPE {
+    if u16_at(front, CERTIFICATE_TYPE_AT) != CERTIFICATE_TYPE {
         return Err(PartFault::new(CERTIFICATE_TYPE_AT as u32, PartWhy::BadCertType));
     }
     Ok(())

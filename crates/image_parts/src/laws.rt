@@ -8,9 +8,12 @@ ghost use Rattle.image_parts.specs.declared.authentication.TheConstants.{CERTIFI
 ghost use Rattle.image_parts.specs.declared.authentication.TheConstants.{REVISION};
 ghost use Rattle.image_parts.specs.declared.payload_header.TheConstants.{SIGNATURE};
 ghost use Rattle.image_parts.specs.declared.fault.PartWhy.{PartWhy};
+ghost use Rattle.image_parts.specs.declared.spans.PartSpans.{PartSpans};
 ghost use Rattle.image_parts.specs.Cuts.{IsCutInto};
 ghost use Rattle.image_parts.specs.Parts.{IsPartsOf};
 ghost use Rattle.image_parts.specs.Refusals.{IsRefused};
+ghost use Rattle.image_parts.specs.Scan.{ScanValue, StandsFor};
+ghost use Rattle.image_parts.specs.Spans.{HasSpans};
 ghost use Rattle.image_parts.specs.Values.{PartsValue};
 
 /// The fixed numbers of WIN_CERTIFICATE_UEFI_GUID, and the signature `MSS1` of a payload header.
@@ -51,4 +54,14 @@ pub fn one_refusal()
     ensures { (image : List ℕ) (support at other : ℕ) (why cause : PartWhy) →
         IsRefused image support at why → IsRefused image support other cause →
         (at ≡ other) × (why ≡ cause) }
+{}
+
+/// What a scan keeps decides: when all bytes came, one answer holds of every image for which it
+/// stands. So no byte that is not kept has a say.
+pub fn what_is_kept_decides()
+    ensures { (scan : ScanValue) (some : List ℕ) → StandsFor scan some → scan.came ≡ scan.size →
+        ((spans : PartSpans) × ((image : List ℕ) →
+        StandsFor scan image → HasSpans image scan.support spans))
+        ⊎ ((at : ℕ) × (why : PartWhy) × ((image : List ℕ) →
+        StandsFor scan image → IsRefused image scan.support at why)) }
 {}

@@ -10,14 +10,20 @@
 mod admission;
 mod authentication;
 mod fault;
+mod front;
 pub mod laws;
 mod payload_header;
+mod scanning;
 mod section;
+mod spans;
 mod splitting;
 mod support;
 mod value;
+mod window;
 
 pub use admission::is_admitted;
 pub use fault::{PartFault, PartRefusal, PartWhy};
+pub use scanning::{MAX_KEPT_BYTES, PartScan};
+pub use spans::PartSpans;
 pub use splitting::split;
 pub use value::{AuthParts, Parts, PayloadHead};

@@ -3,7 +3,7 @@
 ghost use Rattle.std.specs.Prelude.{◌≡◌, ◌+◌, ◌≤◌, ◌<◌, ◌^◌, OnOk, IfOk, length};
 ghost use Rattle.cu_base.specs.Refusals.{first_refusal};
 ghost use Rattle.image_parts.specs.PayloadHeader.{header_size, payload_head_at};
-ghost use Rattle.image_parts.specs.PayloadHeader.{payload_header_rows};
+ghost use Rattle.image_parts.specs.PayloadHeader.{payload_header_rows_of};
 ghost use Rattle.image_parts.specs.Refusals.{Answers};
 
 use crate::{PartFault, PartWhy, PayloadHead};
@@ -24,28 +24,30 @@ const LOWEST_AT: usize = 12;
 /// The signature.
 pub const SIGNATURE: [u8; 4] = *b"MSS1";
 
-/// The payload header at the front of bytes, which begin at place `start` of the image.
-pub fn read_head(rest: &[u8], start: usize) -> Result<PayloadHead, PartFault>
-    requires { start + length rest.now < 2 ^ 32 }
-    ensures rows { Answers result (first_refusal (payload_header_rows rest.now start)) }
-    ensures value { IfOk result (λ head. head ≡ payload_head_at rest.now) }
+/// The payload header at the front of `size` bytes, which begin at place `start` of the image.
+/// `front` has its fields.
+pub fn read_head(front: &[u8], size: usize, start: usize) -> Result<PayloadHead, PartFault>
+    requires place { start + size < 2 ^ 32 }
+    requires front { FIELD_BYTES ≤ size → FIELD_BYTES ≤ length front.now }
+    ensures rows { Answers result (first_refusal (payload_header_rows_of front.now size start)) }
+    ensures value { IfOk result (λ head. head ≡ payload_head_at front.now) }
     ensures fields { IfOk result (λ head. FIELD_BYTES ≤ head.header_size) }
-    ensures within { IfOk result (λ head. head.header_size ≤ length rest.now) }
+    ensures within { IfOk result (λ head. head.header_size ≤ size) }
 {
     let at = start as u32;
-    if rest.len() < FIELD_BYTES {
+    if size < FIELD_BYTES {
         return Err(PartFault::new(at, PartWhy::ShortPayloadHeader));
     }
-    if &rest[..SIGNATURE.len()] != SIGNATURE.as_slice() {
+    if &front[..SIGNATURE.len()] != SIGNATURE.as_slice() {
         return Err(PartFault::new(at, PartWhy::BadSignature));
     }
-    let header_size = u32_at(rest, HEADER_SIZE_AT);
-    if (header_size as usize) < FIELD_BYTES || rest.len() < header_size as usize {
+    let header_size = u32_at(front, HEADER_SIZE_AT);
+    if (header_size as usize) < FIELD_BYTES || size < header_size as usize {
         return Err(PartFault::new(at + HEADER_SIZE_AT as u32, PartWhy::BadPayloadHeaderSize));
     }
     Ok(PayloadHead {
         header_size,
-        version: u32_at(rest, VERSION_AT),
-        lowest: u32_at(rest, LOWEST_AT),
+        version: u32_at(front, VERSION_AT),
+        lowest: u32_at(front, LOWEST_AT),
     })
 }

@@ -4,13 +4,17 @@ ghost use Rattle.std.specs.Prelude.{◌≡◌, ◌+◌, ◌≤◌, ◌<◌, ◌^
 ghost use Rattle.std.specs.Prelude.{option_map};
 ghost use Rattle.image_parts.specs.Cuts.{dep_at};
 ghost use Rattle.image_parts.specs.Refusals.{IsSectionRefusal};
-ghost use Rattle.image_parts.specs.Section.{BeginsWithSection, TakesSection};
+ghost use Rattle.dep_code.specs.Refusals.{op_size, text_size};
+ghost use Rattle.image_parts.specs.Section.{BeginsWithSection, BeginsWithSome, TakesSection};
 ghost use Rattle.image_parts.specs.Support.{has_section};
 
 use crate::support::has_section;
 use crate::{PartFault, PartRefusal, PartWhy};
 use dep_code::{DepRefusal, read_ops};
 use std::alloc::Global;
+
+/// The byte of the operation END.
+const END: u8 = 0x0D;
 
 /// How many bytes at the front are the section: none where none is due. The bytes begin at place
 /// `start` of the image.
@@ -57,4 +61,38 @@ pub fn section_at(image: &[u8], start: usize, size: usize, support: u64) -> Opti
         return None;
     }
     Some(&image[start..start + size])
+}
+
+/// How long the section at the front is. It takes no memory.
+pub fn section_length(bytes: &[u8]) -> usize
+    requires { BeginsWithSome bytes.now }
+    ensures section { BeginsWithSection bytes.now result }
+    ensures within { result ≤ length bytes.now }
+{
+    let mut at = 0usize;
+    while bytes[at] != END {
+        at += op_size(&bytes[at..]);
+    }
+    at + 1
+}
+
+/// How many bytes the operation at the front takes.
+fn op_size(rest: &[u8]) -> usize
+    requires { 0 < length rest.now }
+    ensures { result ≡ op_size rest.now }
+{
+    match rest[0] {
+        0x00 => 17,
+        0x02 => text_size(&rest[1..]) + 2,
+        0x01 | 0x0E => 5,
+        _ => 1,
+    }
+}
+
+/// How many bytes stand before the first zero, or all where there is none.
+fn text_size(bytes: &[u8]) -> usize
+    ensures value { result ≡ text_size bytes.now }
+    ensures within { result ≤ length bytes.now }
+{
+    bytes.iter().take_while(|b| **b != 0).count()
 }

@@ -37,7 +37,7 @@ fn cut<'a>(alloc: Global, image: &'a [u8], support: u64) -> Result<Parts<'a>, Pa
     let (auth, end) = read_auth(image, support)?;
     let size = section_size(alloc, &image[end..], end, support)?;
     let rest = &image[end + size..];
-    let head = read_head(rest, end + size)?;
+    let head = read_head(rest, rest.len(), end + size)?;
     Ok(Parts {
         auth,
         dep: section_at(image, end, size, support),

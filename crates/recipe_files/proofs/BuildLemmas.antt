@@ -31,10 +31,10 @@ use Rattle.recipe_files.specs.Recipes.{other, fmp, keeps_header_rule, keeps_inst
 
 -- ---- an item
 
-pub length-update_image : (f : Contents) (i : ItemValue)
+pub update_image_size : (f : Contents) (i : ItemValue)
     → length (update_image f i)
     ≡ length (auth_bytes (auth_of i)) + length (dep_bytes i.dep) + 16 + length (f i.payload)
-length-update_image f i = simp length-append (omega arith)
+update_image_size f i = simp length-append (omega arith)
 
 rules_by : (h : ℕ) (auth dep : Bool) (instance : ℕ) → 1 ≤ h → h ≤ 3
     → keeps_header_rule h auth dep ≡ true → keeps_instance_rule h instance ≡ true
@@ -70,12 +70,12 @@ image_size f i is type =
       head,
       length-append image (i.vendor ++ []),
       length-append i.vendor [],
-      length-update_image f i,
+      update_image_size f i,
     )
 
 -- ---- drivers
 
-length-drivers_of : (later : ℕ) (ds : List (List ℕ)) → length (drivers_of later ds) ≡ length ds
+pub length-drivers_of : (later : ℕ) (ds : List (List ℕ)) → length (drivers_of later ds) ≡ length ds
 length-drivers_of later [] = refl
 length-drivers_of later (d ∷ ds) = ap suc (length-drivers_of later ds)
 
@@ -222,7 +222,7 @@ vendor_is_within f i most within = omega (arith, length-image f i)
 
 pub auth_is_within : (f : Contents) (i : ItemValue) (most : ℕ)
     → length (update_image f i) ≤ most → length (auth_bytes (auth_of i)) ≤ most
-auth_is_within f i most within = omega (arith, length-update_image f i)
+auth_is_within f i most within = omega (arith, update_image_size f i)
 
 not_all : (fault : BuildFault) (left here room all rest : ℕ) → FitsIn left here (Err fault)
     → left + all ≡ room + (here + rest) → FitsIn room all (Err fault)

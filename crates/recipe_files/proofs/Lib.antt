@@ -5,6 +5,7 @@ pub mod Entries
 pub mod FaultLemmas
 pub mod HexLemmas
 pub mod IndexLemmas
+pub mod LayLemmas
 pub mod PartLemmas
 pub mod RecipeFaults
 pub mod RecipeLemmas

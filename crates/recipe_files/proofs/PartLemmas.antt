@@ -1,5 +1,5 @@
 -- The update image of an item is its parts.
-use Rattle.std.proofs.Common.{◌≡◌, ℕ, ◌+◌, ◌%◌, ◌/◌, Bool, true, false, cond, List, Option}
+use Rattle.std.proofs.Common.{◌≡◌, ◌+◌, Bool, true, false, cond}
 use Rattle.std.proofs.Common.{None, Some}
 use Rattle.std.proofs.Common.{IfSome, refl, ◌∙◌, arith}
 use Rattle.std.specs.Prelude.{is_some}

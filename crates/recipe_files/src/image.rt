@@ -33,7 +33,7 @@ const CERTIFICATE_TYPE: u16 = 0x0EF1;
 const SIGNATURE: &[u8] = b"MSS1";
 
 /// ImageCapsuleSupport (UEFI 2.10, 23.3.2).
-fn support_of(item: &RecipeItem) -> u64
+pub(crate) fn support_of(item: &RecipeItem) -> u64
     ensures { result ≡ support_of item.now }
 {
     u64::from(item.auth) + if item.dep.is_some() { 2 } else { 0 }
@@ -55,7 +55,7 @@ fn put_certificate(out: &mut Blob, auth: &AuthParts<'_>) -> Result<(), NoMemory>
 
 /// Appends the authentication data of an item, if it has any.
 #[tactic(auto, using(crate::proofs::BuildLemmas::cert_is_within))]
-fn put_auth(out: &mut Blob, item: &RecipeItem) -> Result<(), NoMemory>
+pub(crate) fn put_auth(out: &mut Blob, item: &RecipeItem) -> Result<(), NoMemory>
     requires { length (auth_bytes (auth_of item.now)) ≤ MAX_CAPSULE_BYTES }
     ensures { OnOk result (out.new ≡ out.old ++ auth_bytes (auth_of item.now)) }
 {
@@ -74,7 +74,7 @@ fn put_auth(out: &mut Blob, item: &RecipeItem) -> Result<(), NoMemory>
 }
 
 /// Appends a section, if there is one.
-fn put_section(out: &mut Blob, dep: &Option<Blob>) -> Result<(), NoMemory>
+pub(crate) fn put_section(out: &mut Blob, dep: &Option<Blob>) -> Result<(), NoMemory>
     ensures { OnOk result (out.new ≡ out.old ++ dep_bytes dep.now) }
 {
     match dep {
@@ -84,7 +84,7 @@ fn put_section(out: &mut Blob, dep: &Option<Blob>) -> Result<(), NoMemory>
 }
 
 /// Appends the fields of a payload header.
-fn put_head(out: &mut Blob, head: &PayloadHead) -> Result<(), NoMemory>
+pub(crate) fn put_head(out: &mut Blob, head: &PayloadHead) -> Result<(), NoMemory>
     ensures { OnOk result (out.new ≡ out.old ++ payload_head_bytes head.now) }
 {
     out.push_slice(SIGNATURE)?;
@@ -95,7 +95,7 @@ fn put_head(out: &mut Blob, head: &PayloadHead) -> Result<(), NoMemory>
 }
 
 /// The payload header of an item.
-fn head_of(item: &RecipeItem) -> PayloadHead
+pub(crate) fn head_of(item: &RecipeItem) -> PayloadHead
     ensures { result ≡ head_of item.now }
 {
     PayloadHead {

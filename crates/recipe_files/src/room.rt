@@ -1,10 +1,10 @@
 //! How many bytes a capsule takes, before any is written.
 
 ghost use Rattle.std.specs.Prelude.{◌≡◌, ◌+◌, ◌*◌, ◌≤◌, ◌<◌, true, false, if◌then◌else◌, IsTrue};
-ghost use Rattle.std.specs.Prelude.{MatchResult, length, map};
+ghost use Rattle.std.specs.Prelude.{IfOk, MatchResult, length, map};
 ghost use Rattle.std.specs.List.{concat};
 ghost use Rattle.capsule_grammar.specs.Fits.{is_sized};
-ghost use Rattle.capsule_grammar.specs.Spelling.{body_bytes, fmp_bytes, image_bytes};
+ghost use Rattle.capsule_grammar.specs.Spelling.{body_bytes, fmp_bytes, header_of, image_bytes};
 ghost use Rattle.image_parts.specs.Parts.{auth_bytes, dep_bytes};
 ghost use Rattle.recipe_files.specs.Builds.{auth_of, body_of, capsule_of, drivers_of, filled};
 ghost use Rattle.recipe_files.specs.Builds.{fmp_of, image_of, update_image};
@@ -19,10 +19,10 @@ use fmp_headers::{CAPSULE_HEADER_BYTES, FMP_HEADER_BYTES, image_header_size};
 use std::collections::HashMap;
 
 /// The bytes of an offset.
-const OFFSET_BYTES: usize = 8;
+pub(crate) const OFFSET_BYTES: usize = 8;
 
 /// The bytes of authentication data up to CertData (UEFI 2.10, 23.1).
-const AUTHENTICATION_BYTES: usize = 32;
+pub(crate) const AUTHENTICATION_BYTES: usize = 32;
 
 /// The bytes of a payload header (EDK II, FmpPayloadHeaderLibV1).
 pub(crate) const HEAD_BYTES: u32 = 16;
@@ -167,17 +167,20 @@ fn behind_body<'a>(
     }
 }
 
-/// Whether the encoding of the capsule has at most 67,108,864 bytes.
+/// The bytes of the encoding of the capsule, if they are at most 67,108,864.
 pub(crate) fn check_size<'a>(
     index: &HashMap<&'a str, &'a [u8]>,
     recipe: &Recipe,
-) -> Result<(), BuildFault>
-    ensures { MatchResult result
+) -> Result<u32, BuildFault>
+    ensures size { IfOk result
+        (λ size. size ≡ (header_of (capsule_of (found index.now) recipe.now)).image_size) }
+    ensures fits { MatchResult result
         (λ _. is_sized (capsule_of (found index.now) recipe.now) ≡ true)
         (λ fault. is_sized (capsule_of (found index.now) recipe.now) ≡ false) }
+    ensures bound { IfOk result (λ size. size ≤ MAX_CAPSULE_BYTES) }
 {
     let room = (MAX_CAPSULE_BYTES - CAPSULE_HEADER_BYTES) as u64;
     let left = take(room, recipe.ext.len())?;
-    behind_body(index, recipe, left)?;
-    Ok(())
+    let left = behind_body(index, recipe, left)?;
+    Ok(MAX_CAPSULE_BYTES - left as u32)
 }

@@ -1,10 +1,11 @@
 //! Capsules made of recipes, against bytes written by hand.
 
+use crate::pieces::joined;
 use crate::texts::{recipe, with_lines};
 use capsule_grammar::{encode, rebuild};
 use cu_base::{Blob, Text};
 use cu_io::Loaded;
-use recipe_files::{BuildFault, build};
+use recipe_files::{BuildFault, build, build_pieces, capsule_size};
 use std::alloc::Global;
 use std::process::Abort;
 use std::test::Fail;
@@ -45,9 +46,11 @@ fn inputs(alloc: Global) -> Result<Loaded, Fail> {
     Ok(loaded)
 }
 
-/// The capsule of a text is these pieces, and a rebuild leaves it as it is.
+/// The capsule of a text is these pieces, in pieces too, and a rebuild leaves it as it is.
 fn makes(alloc: Global, rt: &impl Abort, text: &str, pieces: &[&[u8]]) -> Result<(), Fail> {
-    let made = build(alloc, &recipe(alloc, rt, text), &inputs(alloc)?);
+    let recipe = recipe(alloc, rt, text);
+    let loaded = inputs(alloc)?;
+    let made = build(alloc, &recipe, &loaded);
     let capsule = made.ok().expect(rt, "a capsule");
     let bytes = encode(alloc, &capsule)?;
     let mut expected = Blob::new(alloc);
@@ -57,6 +60,18 @@ fn makes(alloc: Global, rt: &impl Abort, text: &str, pieces: &[&[u8]]) -> Result
     assert!(rt; bytes.as_slice() == expected.as_slice(), "of {text}");
     let again = rebuild(alloc, bytes.as_slice())?;
     assert!(rt; again.as_slice() == bytes.as_slice(), "rebuilt {text}");
+    let laid = build_pieces(alloc, &recipe, &loaded)
+        .ok()
+        .expect(rt, "pieces");
+    let joined = joined(alloc, laid.as_slice())?;
+    assert!(rt;
+        joined.as_slice() == expected.as_slice(),
+        "pieces of {text}"
+    );
+    let size = capsule_size(alloc, &recipe, &loaded)
+        .ok()
+        .expect(rt, "a size");
+    assert_eq!(rt; size as usize, expected.len());
     Ok(())
 }
 
@@ -269,7 +284,11 @@ fn fault_of(alloc: Global, rt: &impl Abort, ext: &str) -> Result<Option<BuildFau
     let driver = vec![in alloc; 0u8; 1_048_567]?;
     let mut loaded = Loaded::new(alloc);
     load(alloc, &mut loaded, "b", driver.as_slice())?;
-    Ok(build(alloc, &recipe(alloc, rt, text.as_str()), &loaded).err())
+    let recipe = recipe(alloc, rt, text.as_str());
+    let fault = build(alloc, &recipe, &loaded).err();
+    assert_eq!(rt; build_pieces(alloc, &recipe, &loaded).err(), fault);
+    assert_eq!(rt; capsule_size(alloc, &recipe, &loaded).err(), fault);
+    Ok(fault)
 }
 
 #[test]

@@ -4,11 +4,11 @@ ghost use Rattle.cu_io.specs.Named.{Named, LacksName};
 ghost use Rattle.cu_io.specs.Seen.{Follows};
 ghost use Rattle.reference_machine.specs.declared.event.Event.{Event};
 ghost use Rattle.reference_machine.specs.Laws.{Distinct};
-ghost use Rattle.capsule_tool.specs.Plays.{input_next, input_work, inputs_work, played};
+ghost use Rattle.capsule_tool.specs.Plays.{input_next, input_work, inputs_work};
 ghost use Rattle.capsule_tool.specs.Plays.{AreNamed, AreThinOn, IsOneMore};
 ghost use Rattle.capsule_tool.specs.Steps.{StepsTo, IsStep};
 ghost use Rattle.capsule_tool.specs.Works.{Work};
-ghost use Rattle.capsule_tool.specs.Works.Work.{Finds};
+ghost use Rattle.capsule_tool.specs.Works.Work.{Plays};
 
 use crate::answer::Answer;
 use crate::input::read_input;
@@ -30,7 +30,7 @@ pub fn take_inputs<I: Inputs>(
     requires { Distinct bytes_eq names.now }
     ensures steps { (events : List Event)
         → StepsTo (inputs_work board.now events [] 0 names.now)
-        (λ loaded. Finds (played board.now events loaded.items))
+        (λ loaded. Plays board.now events loaded.items)
         (I.seen inputs.old) (I.seen inputs.new) result }
     ensures ok { IfOk result (λ loaded. AreNamed names.now loaded.items) }
     ensures rule { IfOk result (λ loaded. AreThinOn board.now loaded.items) }

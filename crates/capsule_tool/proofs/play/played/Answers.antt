@@ -3,7 +3,7 @@ use Rattle.capsule_tool.proofs.PlayLaws.{played_is}
 use Rattle.capsule_tool.proofs.play.played.Goals as goal
 
 pub returns : goal.returns
-returns c = played_is _ _ _ c.play.new.trace.items c.in_ok-from_slice.field-0
+returns c = played_is _ _ _ c.play.new.trace.items c.bytes.result
     (rw c.new-trace.ensures at c.in_ok-play.ensures.ok)
-    (c.in_ok-from_slice.ensures ∙ (c.as_bytes.ensures.value
+    (c.bytes.ensures ∙ c.in_ok-from_slice.ensures ∙ (c.as_bytes.ensures.value
     ∙ (c.as_str.ensures ∙ c.in_ok-text.ensures.value)))

@@ -1,15 +1,10 @@
-use Rattle.std.proofs.Common.{◌≡◌, ℕ, ◌≤◌, List, length, take, sym, ◌∙◌, ap, subst}
+use Rattle.std.proofs.Common.{◌≡◌, ℕ, ◌≤◌, List, length, take, sym, ◌∙◌, subst}
 use Rattle.std.proofs.lemmas.List.{take_all}
 use Rattle.fmp_headers.specs.CapsuleHeader.{image_size}
 use Rattle.capsule_grammar.specs.Reading.{capsule_of}
 use Rattle.capsule_grammar.specs.Rebuilt.{emptied}
 use Rattle.capsule_grammar.specs.Spelling.{spelling}
-use Rattle.capsule_tool.specs.declared.answer.Answer.{Answer}
-use Rattle.capsule_tool.specs.declared.status.Status.TheVariants.{Done}
 use Rattle.capsule_tool.proofs.rebuild.rebuilt.Goals as goal
-
-abbrev done_with : List ℕ → Answer
-done_with text = record { status = Done; text = text }
 
 same_bytes : (bytes : List ℕ) → length bytes ≤ image_size bytes
     → spelling (emptied (capsule_of bytes)) ≡ take (image_size bytes) bytes
@@ -20,8 +15,4 @@ pub returns-then-is_rebuilt : goal.returns-then-is_rebuilt
 returns-then-is_rebuilt c =
     let same = subst (λ (b : List ℕ). spelling (emptied (capsule_of b)) ≡ take (image_size b) b)
     c.as_slice.ensures (c.is_rebuilt.ensures.0 c.if-is_rebuilt.true) in
-    ap done_with (sym (same_bytes c.args.bytes c.requires.whole same))
-
-pub returns-in-Ok : goal.returns-in-Ok
-returns-in-Ok c = ap done_with (c.in-Ok.ensures.ok
-    ∙ ap (λ (b : List ℕ). spelling (emptied (capsule_of b))) c.as_slice-2.ensures)
+    c.bytes.ensures ∙ sym (same_bytes c.args.bytes c.requires.whole same)

@@ -1,4 +1,4 @@
-use Rattle.std.proofs.Common.{ℕ, List, ap, arith}
+use Rattle.std.proofs.Common.{ℕ, List, ◌∙◌, ap, arith}
 use Rattle.cu_base.specs.Bytes.{IsBytes}
 use Rattle.capsule_tool.specs.Files.{written}
 use Rattle.capsule_tool.proofs.ShowLaws.{only_shown}
@@ -8,4 +8,4 @@ pub returns-in-Ok : goal.returns-in-Ok
 returns-in-Ok c =
     let bytes = c.args.bytes.now in
     let is : IsBytes bytes = λ i. omega (arith, c.type_inv.bytes i) in
-    ap written (only_shown bytes _ is c.in-Ok.ensures.ok)
+    ap written (c.bytes.ensures ∙ only_shown bytes _ is c.in-Ok.ensures.ok)

@@ -1,8 +1,8 @@
 use Rattle.std.proofs.Common.{◌∙◌, arith}
 use Rattle.std.proofs.lemmas.Result.{err_from_is_err_and}
 use Rattle.cu_io.specs.Named.{Named}
-use Rattle.capsule_tool.specs.Plays.{input_work, played}
-use Rattle.capsule_tool.specs.Works.Work.{Finds}
+use Rattle.capsule_tool.specs.Plays.{input_work}
+use Rattle.capsule_tool.specs.Works.Work.{Plays}
 use Rattle.capsule_tool.proofs.ComingLaws.{come_on, come_stopped, come_done, item_drop, item_take}
 use Rattle.capsule_tool.proofs.ComingLaws.{drop_past}
 use Rattle.capsule_tool.proofs.NameLaws.{new_at, lacks_loaded}
@@ -29,7 +29,7 @@ returns-in_err-take_input-clause-steps g c =
     (g.I.Inputs.seen c.loop-name.inputs) c.name-item.result
     (g.I.Inputs.seen c.take_input.new.inputs) p.0 i.comes at i.follows.named
     (λ rest. rw p.2 (c.in_err-take_input.ensures.steps rest))
-    (λ (loaded : Named). Finds (played c.args.board.now events loaded)))
+    (λ (loaded : Named). Plays c.args.board.now events loaded))
 
 pub loop-name-preserved : goal.loop-name-preserved
 loop-name-preserved g c =
@@ -55,4 +55,4 @@ pub returns-clause-steps : goal.returns-clause-steps
 returns-clause-steps g c = λ events.
     come_done _ _ _ _ _ _ _ _ c.loop-name.invariant.comes
     (drop_past c.args.names.now c.loop-name.name-index c.loop-name-test.false)
-    (λ (loaded : Named). Finds (played c.args.board.now events loaded))
+    (λ (loaded : Named). Plays c.args.board.now events loaded)

@@ -1,0 +1,30 @@
+use Rattle.std.proofs.Common.{◌≡◌, ℕ, ◌+◌, ◌-◌, ◌≤◌, min, List, ◌++◌, length, take, sym, ap, ◌∙◌, arith}
+use Rattle.std.proofs.lemmas.List.{length-take}
+use Rattle.std.proofs.lemmas.Slice.{take-put_mid}
+use Rattle.image_parts.specs.declared.authentication.TheConstants.{AUTHENTICATION_BYTES}
+use Rattle.image_parts.proofs.Lists.{joined_front}
+use Rattle.image_parts.proofs.front.Front.with.Goals as goal
+
+pub returns : goal.returns
+returns c =
+    let n = c.self.inside.length in
+    let bytes = c.self.inside.bytes in
+    let more = c.args.more.now in
+    let added = c.min-added.result in
+    let low : n ≤ AUTHENTICATION_BYTES = c.self.invariant in
+    let long : length (take n bytes) ≡ n = omega (arith, length-take n bytes, c.self.told, low) in
+    let room : added ≡ min (AUTHENTICATION_BYTES - length (take n bytes)) (length more) =
+    c.min-added.ensures
+    ∙ ap (λ (k : ℕ). min (AUTHENTICATION_BYTES - k) (length more)) (sym long) in
+    let size : n + added ≡ n + length c.copy_from_slice.new.self =
+    omega (
+      arith,
+      ap length c.copy_from_slice.ensures.after,
+      length-take added more,
+      c.min-added.ensures,
+    ) in
+    take-put_mid n (n + added - n) bytes c.copy_from_slice.new.self (n + added) size
+    (omega (arith, low, c.self.told))
+    ∙ ap (λ (l : List ℕ). take n bytes ++ l) c.copy_from_slice.ensures.after
+    ∙ joined_front AUTHENTICATION_BYTES (take n bytes) more added (omega (arith, long, low)) room
+    ∙ ap (λ (l : List ℕ). take AUTHENTICATION_BYTES (l ++ more)) c.self.view_is

@@ -1,0 +1,5 @@
+pub mod Found
+pub mod Entries
+pub mod NamesMade
+pub mod RefusalLemmas
+pub mod StoreLemmas
