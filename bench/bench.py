@@ -18,8 +18,9 @@ HERE = os.path.dirname(os.path.abspath(__file__))
 PROGRAM = os.path.join(HERE, "..", "crates", "measures", "out", "measures")
 IMAGE = 67_108_864
 MEBIBYTE = 2**20
-WORDS = ["layout", "image", "small", "slot", "walk", "list", "join", "log", "log_reads"]
+WORDS = ["layout", "image", "small", "slot", "walk", "list", "join", "log", "log_reads", "commits"]
 OPENS = 20
+COMMITS = 20_000
 
 
 def main():
@@ -33,6 +34,7 @@ def main():
         took = {word: measure([program, word], copy) for word in WORDS}
     join = took["join"] - took["list"]
     log = (took["log"] - took["log_reads"]) / OPENS
+    commits = COMMITS / (took["commits"] - start) * 1_000
     memory = resident([program, "layout"])
     rows = [
         ("start of the program alone", f"{start:.1f} ms", "", True),
@@ -45,6 +47,7 @@ def main():
         ("join: a list of one block of 64 MiB", f"{join / cp:.1f} times cp", "3 times", join < 3 * cp),
         ("log: a full bank of 1 MiB opened, once of 20", f"{log:.2f} ms", "20 ms", log < 20),
         ("log_reads: made, and read 20 times", f"{took['log_reads']:.1f} ms", "", True),
+        ("commits: of one of 16 variables of 64 bytes", f"{commits:,.0f} a second", "", True),
     ]
     if memory is not None:
         rows.append(("memory of layout", f"{memory / MEBIBYTE:.1f} MiB", "16 MiB", memory < 16 * MEBIBYTE))

@@ -4,6 +4,7 @@
 #![tactic(auto)]
 
 mod boards;
+mod commits;
 mod image;
 mod lists;
 mod opens;
@@ -23,8 +24,9 @@ use stop::Stop;
 /// image of 64 MiB is written in pieces, synced and read back; small writes with syncs go all over
 /// that board; an image of 64 MiB is set as the slot of a device; a scatter list of 65,536
 /// descriptors in 256 segments is walked; a list of one block of 64 MiB is laid; it is laid and
-/// joined; a full bank of variables is opened 20 times; that bank is read as often.
-const WORDS: [&str; 9] = [
+/// joined; a full bank of variables is opened 20 times; that bank is read as
+/// often; a batch is committed 20,000 times.
+const WORDS: [&str; 10] = [
     "layout",
     "image",
     "small",
@@ -34,6 +36,7 @@ const WORDS: [&str; 9] = [
     "join",
     "log",
     "log_reads",
+    "commits",
 ];
 
 fn main(rt: HostRuntime) -> ExitCode {
@@ -46,7 +49,8 @@ fn main(rt: HostRuntime) -> ExitCode {
         Some(5) => lists::measure_list(rt.alloc()),
         Some(6) => lists::measure_join(rt.alloc()),
         Some(7) => opens::measure(rt.alloc()),
-        Some(_) => opens::measure_reads(rt.alloc()),
+        Some(8) => opens::measure_reads(rt.alloc()),
+        Some(_) => commits::measure(rt.alloc()),
         None => tell_words(&rt),
     };
     match done {

@@ -1,8 +1,9 @@
 -- A region by its blocks, as a region: blank, and after a write, a sync, a cut and a further block.
 use Rattle.std.proofs.Common.{◌≡◌, inl, inr, ℕ, ◌+◌, ◌-◌, ◌*◌, ◌/◌, ◌%◌, ◌<◌, ◌≤◌, true, false}
 use Rattle.std.proofs.Common.{List, ◌++◌, length, get_or, take, drop, replicate, refl, sym, ◌∙◌, ap}
-use Rattle.std.proofs.Common.{arith, length-drop, if◌then◌else◌, rules}
+use Rattle.std.proofs.Common.{arith, length-append, length-drop, if◌then◌else◌, rules}
 use Rattle.std.proofs.lemmas.List.{ext_get_or, get_or-drop, get_or-take, get_or_default}
+use Rattle.std.proofs.lemmas.List.{get_or-set_same}
 use Rattle.std.proofs.lemmas.List.{drop-drop, length-replicate, length-take-le, places}
 use Rattle.std.proofs.lemmas.Slice.{take-put_mid}
 use Rattle.std.proofs.Math.Seq.{take-add}
@@ -16,7 +17,7 @@ use Rattle.mem_bench.specs.declared.room.TheConstants.{BLANK, BLOCK}
 use Rattle.mem_bench.specs.Regions.{IsCut, IsRegion, RegionValue, byte_after, lengthened, no_region}
 use Rattle.mem_bench.specs.Regions.{overlaid, stable_region, written}
 use Rattle.mem_bench.specs.Tables.{IsTable, item_at, item_in, seen_through, through}
-use Rattle.mem_bench.proofs.BlockLemmas.{block_kept, item_blank, item_kept, piece_written}
+use Rattle.mem_bench.proofs.BlockLemmas.{IsTable-set, block_kept, item_blank, item_kept, piece_written}
 use Rattle.mem_bench.proofs.BlockLemmas.{through_at, through_is, through_long}
 use Rattle.mem_bench.proofs.RegionLemmas.{written_more}
 use Rattle.mem_bench.proofs.RoomLemmas.{same_everywhere}
@@ -168,6 +169,45 @@ keep_seen size table made block rule there none kept whole long =
     ≡ through false size table kept.marks =
     block_kept table made block rule there none false size kept.marks (whole.marks ∙ long) in
     λ i. record { bytes = bytes i; synced = synced i; marks = marks i }
+
+-- a block that is kept first, and is written whole
+pub whole_seen : (size : ℕ) (table : List ℕ) (made block : ℕ) → IsTable table made
+    → block < length table → get_or table block 0 ≡ 0 → (kept : RegionValue) → IsRegion kept
+    → length kept.bytes ≡ made * BLOCK → (piece : List ℕ) → length piece ≡ BLOCK
+    → block * BLOCK + BLOCK ≤ size
+    → seen_through size (set table block (made + 1))
+    (written (length kept.bytes) piece (lengthened BLOCK kept))
+    ≡ written (block * BLOCK) piece (seen_through size table kept)
+whole_seen size table made block rule there none kept whole long piece full fits =
+    let more : length (kept.bytes ++ replicate BLOCK BLANK) ≡ length kept.bytes + BLOCK =
+    length-append kept.bytes (replicate BLOCK BLANK)
+    ∙ ap (λ (n : ℕ). length kept.bytes + n) (length-replicate BLOCK BLANK) in
+    let all : IsRegion (lengthened BLOCK kept) = record {
+      synced = omega (
+        arith,
+        more,
+        length-append kept.synced (replicate BLOCK BLANK),
+        length-replicate BLOCK BLANK,
+        whole.synced,
+      );
+      marks = omega (
+        arith,
+        more,
+        length-append kept.marks (replicate BLOCK false),
+        length-replicate BLOCK false,
+        whole.marks,
+      );
+    } in
+    let same : block * BLOCK / BLOCK ≡ block = omega arith in
+    let number : get_or (set table block (made + 1)) (block * BLOCK / BLOCK) 0 ≡ made + 1 =
+    ap (λ (b : ℕ). get_or (set table block (made + 1)) b 0) same
+    ∙ get_or-set_same table block (made + 1) 0 there in
+    piece_seen size (set table block (made + 1)) (made + 1)
+    (IsTable-set table made block rule there none) (lengthened BLOCK kept) all
+    (omega (arith, more, long)) (block * BLOCK) (length kept.bytes) piece (omega (arith, number))
+    (omega (arith, number, long)) (omega (arith, full)) (omega (arith, full, fits))
+    ∙ ap (λ (r : RegionValue). written (block * BLOCK) piece r)
+    (keep_seen size table made block rule there none kept whole long)
 
 -- bytes that are those of the places from `place` on are the field there
 field_is : (size : ℕ) (table bytes xs : List ℕ) (place n : ℕ) → length xs ≡ n → place + n ≤ size

@@ -3,5 +3,6 @@ pub mod Folders
 pub mod Parts
 pub mod Quiet
 pub mod Regions
+pub mod Rooms
 pub mod State
 pub mod Tables

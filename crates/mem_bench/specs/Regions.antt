@@ -1,6 +1,6 @@
 -- A region in memory: the bytes as read, those at its last sync, and the places that were written
 -- since.
-use Rattle.std.specs.Prelude.{◌≡◌, ◌⊎◌, ℕ, ◌+◌, ◌%◌, ◌<◌, ◌≤◌, ◌==◌, Bool, true, false, List, []}
+use Rattle.std.specs.Prelude.{◌≡◌, ℕ, ◌+◌, ◌%◌, ◌<◌, ◌==◌, Bool, true, false, List, []}
 use Rattle.std.specs.Prelude.{◌++◌, length, take, drop, replicate, get_or, Option, Some, None}
 use Rattle.std.specs.Prelude.{if◌then◌else◌}
 use Rattle.bench_model.specs.declared.choice.Choice.{Choice}
@@ -45,15 +45,6 @@ lengthened n r = record {
   synced = r.synced ++ replicate n 255;
   marks = r.marks ++ replicate n false;
 }
-
--- what is kept, where all dirty places lie from `low` on and before `high`: a place that is not
--- dirty reads as at the last sync
-pub record IsRoom (r : RegionValue) (low high : ℕ) : Type 0 where
-  pub rule : IsRegion r
-  pub order : low ≤ high
-  pub within : high ≤ length r.bytes
-  pub clean : (k : ℕ) → (k < low) ⊎ (high ≤ k) → get_or r.marks k false ≡ false
-  pub last : (k : ℕ) → get_or r.marks k false ≡ false → get_or r.synced k 0 ≡ get_or r.bytes k 0
 
 -- a region whose bytes are stable
 abbrev pub stable_region : List ℕ → RegionValue

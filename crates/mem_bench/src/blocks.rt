@@ -38,7 +38,7 @@ impl Blocks {
         Ok(Blocks {
             table: blank_table(alloc, blocks)?,
             made: 0,
-            room: Room::new(alloc, blocks * BLOCK)?,
+            room: Room::new(alloc, blocks)?,
         })
     }
 
@@ -115,8 +115,27 @@ impl Blocks {
             → seen size self.new ≡ written place bytes.now (seen size self.old) }
         ensures long { length self.new.table.items ≡ length self.old.table.items }
     {
-        let start = self.keep(place / BLOCK);
-        self.room.write(start + place % BLOCK, bytes);
+        let block = place / BLOCK;
+        if bytes.len() == BLOCK && self.table[block] == 0 {
+            self.keep_whole(block, bytes);
+        } else {
+            let start = self.keep(block);
+            self.room.write(start + place % BLOCK, bytes);
+        }
+    }
+
+    /// Keeps a block from now on whose first write is one of all its places.
+    fn keep_whole(&mut self, block: usize, bytes: &[u8])
+        requires there { block < length self.old.table.items }
+        requires blank { get_or self.old.table.items block 0 ≡ 0 }
+        requires whole { length bytes.now ≡ BLOCK }
+        ensures written { (size : ℕ) → block * BLOCK + BLOCK ≤ size
+            → seen size self.new ≡ written (block * BLOCK) bytes.now (seen size self.old) }
+        ensures long { length self.new.table.items ≡ length self.old.table.items }
+    {
+        self.room.append(bytes);
+        self.made += 1;
+        self.table[block] = self.made;
     }
 
     /// Where a block begins in the room. It is kept from now on.

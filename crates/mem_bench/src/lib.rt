@@ -8,6 +8,8 @@ mod clerk;
 mod factory;
 mod flash;
 mod folder;
+mod last_sync;
+mod lists;
 mod never_fails;
 mod order_book;
 mod orders;

@@ -1,9 +1,12 @@
-ghost use Rattle.std.specs.Prelude.{◌≡◌, ◌+◌, ◌*◌, ◌<◌, ◌≤◌, ◌⊎◌, ℕ, [], ◌++◌, false, length};
-ghost use Rattle.std.specs.Prelude.{get_or, replicate, IfOk, vec_capacity, vec_len};
+ghost use Rattle.std.specs.Prelude.{◌≡◌, ◌≢◌, ◌+◌, ◌*◌, ◌/◌, ◌%◌, ◌<◌, ◌≤◌, ◌^◌, ◌⊎◌, ℕ, false};
+ghost use Rattle.std.specs.Prelude.{get_or, length, IfOk, if◌then◌else◌};
 ghost use Rattle.cu_base.specs.Fields.{field};
 ghost use Rattle.mem_bench.specs.Regions.{IsCut, IsRegion, byte_after, lengthened, no_region};
-ghost use Rattle.mem_bench.specs.Regions.{overlaid, stable_region, written};
+ghost use Rattle.mem_bench.specs.Regions.{stable_region, written};
+ghost use Rattle.mem_bench.specs.Rooms.{mark_at, marks_by, synced_at, synced_by};
 
+use crate::last_sync::{BlockState, LastSync};
+use crate::lists::{append, lengthen, put, with_room};
 use bench_model::Choice;
 use cu_base::NoMemory;
 use std::alloc::Global;
@@ -21,44 +24,39 @@ pub const BLOCK: usize = 4096;
 #[derive(Drop)]
 pub struct Room {
     bytes: Vec<u8>,
-    synced: Vec<u8>,
-    marks: Vec<bool>,
-    most: usize,
-    /// The dirty places lie from here on.
-    low: usize,
-    /// The dirty places lie before this one.
-    high: usize,
+    last: LastSync,
 }
 
 impl Model for Room {
-    ghost use Rattle.std.specs.Prelude.{◌≤◌, vec_capacity};
-    ghost use Rattle.mem_bench.specs.Regions.{RoomValue, IsRoom};
+    ghost use Rattle.std.specs.Prelude.{◌≡◌, ◌≤◌, ◌*◌, length, vec_capacity};
+    ghost use Rattle.mem_bench.specs.Regions.{RoomValue};
+    ghost use Rattle.mem_bench.specs.Rooms.{marks_by, synced_by};
+    ghost use Rattle.mem_bench.specs.declared.room.TheConstants.{BLOCK};
 
     ghost Value = { RoomValue };
 
     ghost view = { λ r. record {
-      kept = record { bytes = r.bytes.items; synced = r.synced.items; marks = r.marks.items };
-      most = r.most;
+      kept = record {
+        bytes = r.bytes.items;
+        synced = synced_by r.last.states.items r.last.saved.items r.bytes.items;
+        marks = marks_by r.last.states.items r.last.marks.items (length r.bytes.items);
+      };
+      most = r.last.most * BLOCK;
     } };
 
-    ghost invariant = { λ r.
-        IsRoom (record { bytes = r.bytes.items; synced = r.synced.items; marks = r.marks.items })
-        r.low r.high × (r.most ≤ vec_capacity r.bytes) × (r.most ≤ vec_capacity r.synced)
-        × (r.most ≤ vec_capacity r.marks) };
+    ghost invariant = { λ r. (length r.bytes.items ≡ length r.last.states.items * BLOCK)
+        × (r.last.most * BLOCK ≤ vec_capacity r.bytes) };
 }
 
 impl Room {
-    /// Room for so many places, none of which is kept yet.
-    pub fn new(alloc: Global, most: usize) -> Result<Room, NoMemory>
-        ensures { IfOk result (λ r. r ≡ record { kept = no_region; most = most }) }
+    /// Room for so many blocks, none of which is kept yet.
+    pub fn new(alloc: Global, blocks: usize) -> Result<Room, NoMemory>
+        requires { blocks * BLOCK < 2 ^ 64 }
+        ensures { IfOk result (λ r. r ≡ record { kept = no_region; most = blocks * BLOCK }) }
     {
         Ok(Room {
-            bytes: with_room(alloc, most)?,
-            synced: with_room(alloc, most)?,
-            marks: with_room(alloc, most)?,
-            most,
-            low: 0,
-            high: 0,
+            bytes: with_room(alloc, blocks * BLOCK)?,
+            last: LastSync::new(alloc, blocks)?,
         })
     }
 
@@ -76,37 +74,40 @@ impl Room {
         ensures value { self.new ≡ record self.old { kept = lengthened BLOCK self.old.kept } }
         ensures rule { IsRegion self.old.kept }
     {
-        lengthen(&mut self.bytes, BLOCK, BLANK);
-        lengthen(&mut self.synced, BLOCK, BLANK);
-        lengthen(&mut self.marks, BLOCK, false);
+        let size = self.bytes.len() + BLOCK;
+        lengthen(&mut self.bytes, size, BLANK);
+        self.last.push(BlockState::Clean);
     }
 
-    /// Writes bytes from a place on, which makes their places dirty.
+    /// Keeps one block more, which was blank and is written whole. It takes no memory.
+    pub fn append(&mut self, block: &[u8])
+        requires room { length self.old.kept.bytes + BLOCK ≤ self.old.most }
+        requires whole { length block.now ≡ BLOCK }
+        ensures value { self.new ≡ record self.old {
+          kept = written (length self.old.kept.bytes) block.now (lengthened BLOCK self.old.kept);
+        } }
+        ensures rule { IsRegion self.old.kept }
+    {
+        append(&mut self.bytes, block);
+        self.last.push(BlockState::Fresh);
+    }
+
+    /// Writes bytes of one block from a place on, which makes their places dirty.
     pub fn write(&mut self, at: usize, bytes: &[u8])
-        requires { at + length bytes.now ≤ length self.old.kept.bytes }
+        requires there { at < length self.old.kept.bytes }
+        requires inside { at % BLOCK + length bytes.now ≤ BLOCK }
         ensures value { self.new ≡ record self.old { kept = written at bytes.now self.old.kept } }
         ensures rule { IsRegion self.old.kept }
     {
+        self.last.dirty(&self.bytes, at, bytes.len());
         put(&mut self.bytes, at, bytes);
-        mark(&mut self.marks, at, bytes.len(), true);
-        let end = at + bytes.len();
-        if self.low >= self.high {
-            self.low = at;
-            self.high = end;
-        } else {
-            self.low = self.low.min(at);
-            self.high = self.high.max(end);
-        }
     }
 
     /// Makes the bytes as read last: no place is dirty then.
     pub fn sync(&mut self)
         ensures { self.new ≡ record self.old { kept = stable_region self.old.kept.bytes } }
     {
-        put(&mut self.synced, self.low, &self.bytes[self.low..self.high]);
-        mark(&mut self.marks, self.low, self.high - self.low, false);
-        self.low = 0;
-        self.high = 0;
+        self.last.sync();
     }
 
     /// Leaves what a power cut with this choice leaves.
@@ -116,76 +117,43 @@ impl Room {
         ensures cut { IsCut choice self.old.kept self.new.kept.bytes }
         ensures rule { IsRegion self.old.kept }
     {
-        choose(
-            choice,
-            self.low,
-            self.high,
-            &self.marks,
-            &self.synced,
-            &mut self.bytes,
-        );
+        choose(choice, &self.last, &mut self.bytes);
         self.sync();
     }
 }
 
-/// An empty list with room for so many items.
-fn with_room<T>(alloc: Global, most: usize) -> Result<Vec<T>, NoMemory>
-    ensures items { IfOk result (λ v. v.items ≡ []) }
-    ensures room { IfOk result (λ v. most ≤ vec_capacity v) }
+/// Makes of each dirty byte what a power cut with this choice leaves of it.
+fn choose(choice: Choice, last: &LastSync, bytes: &mut [u8])
+    requires { length bytes.old ≡ length last.now.states.items * BLOCK }
+    ensures { IsCut choice (record {
+      bytes = bytes.old;
+      synced = synced_by last.now.states.items last.now.saved.items bytes.old;
+      marks = marks_by last.now.states.items last.now.marks.items (length bytes.old);
+    }) bytes.new }
 {
-    match Vec::with_capacity(alloc, most) {
-        Ok(items) => Ok(items),
-        Err(_) => Err(NoMemory),
+    for block in 0..last.blocks() {
+        if !last.is_clean(block) {
+            choose_block(choice, last, block, bytes);
+        }
     }
 }
 
-/// Appends one item so many times, where there is room.
-fn lengthen<T: Copy>(items: &mut Vec<T>, n: usize, item: T)
-    requires { vec_len items.old + n ≤ vec_capacity items.old }
-    ensures items { items.new.items ≡ items.old.items ++ replicate n item }
-    ensures room { vec_capacity items.old ≤ vec_capacity items.new }
+/// Makes of each dirty byte of a block what a power cut with this choice leaves of it.
+fn choose_block(choice: Choice, last: &LastSync, block: usize, bytes: &mut [u8])
+    requires long { length bytes.old ≡ length last.now.states.items * BLOCK }
+    requires there { block < length last.now.states.items }
+    ensures long { length bytes.new ≡ length bytes.old }
+    ensures chosen { (k : ℕ) → block * BLOCK ≤ k → k < (block + 1) * BLOCK → get_or bytes.new k 0
+        ≡ (if mark_at last.now.states.items last.now.marks.items k
+        then byte_after choice k
+        (synced_at last.now.states.items last.now.saved.items bytes.old k)
+        (get_or bytes.old k 0) else get_or bytes.old k 0) }
+    ensures frame { (k : ℕ) → (k < block * BLOCK) ⊎ ((block + 1) * BLOCK ≤ k)
+        → get_or bytes.new k 0 ≡ get_or bytes.old k 0 }
 {
-    let size = items.len() + n;
-    match items.resize(size, item) {
-        Ok(()) => {}
-        Err(_) => unreachable!(),
-    }
-}
-
-/// Puts bytes in place of those from a place on.
-fn put(items: &mut Vec<u8>, at: usize, bytes: &[u8])
-    requires { at + length bytes.now ≤ length items.old.items }
-    ensures items { items.new.items ≡ overlaid at bytes.now items.old.items }
-    ensures room { vec_capacity items.new ≡ vec_capacity items.old }
-{
-    let to = &mut items[at..at + bytes.len()];
-    to.copy_from_slice(bytes);
-}
-
-/// Marks so many places from a place on as dirty, or as not dirty.
-fn mark(marks: &mut Vec<bool>, at: usize, n: usize, dirty: bool)
-    requires { at + n ≤ length marks.old.items }
-    ensures items { marks.new.items ≡ overlaid at (replicate n dirty) marks.old.items }
-    ensures room { vec_capacity marks.new ≡ vec_capacity marks.old }
-{
-    let to = &mut marks[at..at + n];
-    to.fill(dirty);
-}
-
-/// Makes of each dirty byte what a power cut with this choice leaves of it. All of them lie from
-/// `low` on and before `high`.
-fn choose(choice: Choice, low: usize, high: usize, marks: &[bool], synced: &[u8], bytes: &mut [u8])
-    requires marks { length marks.now ≡ length bytes.old }
-    requires synced { length synced.now ≡ length bytes.old }
-    requires order { low ≤ high }
-    requires within { high ≤ length bytes.old }
-    requires clean { (k : ℕ) → (k < low) ⊎ (high ≤ k) → get_or marks.now k false ≡ false }
-    ensures { IsCut choice (record { bytes = bytes.old; synced = synced.now; marks = marks.now })
-        bytes.new }
-{
-    for k in low..high {
-        if marks[k] {
-            bytes[k] = byte_after(choice, k, synced[k], bytes[k]);
+    for k in block * BLOCK..(block + 1) * BLOCK {
+        if last.is_dirty(k) {
+            bytes[k] = byte_after(choice, k, last.byte(k, bytes[k]), bytes[k]);
         }
     }
 }

@@ -39,6 +39,11 @@ pub record IsLog (log : LogValue) : Type 0 where
   pub within : log.at < log.size
   pub size : log.size ≤ MAX_BANK
 
+-- the flash has not failed the log, and no batch is in doubt
+pub record IsFresh (log : LogValue) : Type 0 where
+  pub pending : log.pending ≡ None
+  pub stale : log.stale ≡ false
+
 -- regions 0 and 1 are there, of one size within the limits of a bank
 pub record HasBanks (b : BenchValue) : Type 0 where
   pub there : 2 ≤ b.contents.regions

@@ -2,8 +2,8 @@ ghost use Rattle.std.specs.Prelude.{◌≡◌, ◌+◌, ◌-◌, ◌^◌, ◌≤
 ghost use Rattle.bench_model.specs.Bench.{ChangesRegion};
 ghost use Rattle.cu_base.specs.Causes.{HasCauseOf};
 ghost use Rattle.var_log.specs.Counts.{raised};
-ghost use Rattle.var_log.specs.Logs.{free_of, HasBanks, StandsOn, HasBatchOrNot, HasBatch};
-ghost use Rattle.var_log.specs.Logs.{is_stale, AppendLeaves};
+ghost use Rattle.var_log.specs.Logs.{ChangesBanks, free_of, HasBanks, StandsOn, HasBatchOrNot};
+ghost use Rattle.var_log.specs.Logs.{is_stale, AppendLeaves, HasBatch};
 
 use crate::moving::open_behind;
 use crate::{LogFault, Record};
@@ -87,7 +87,8 @@ impl VarLog {
         ensures err { self.old.stale ≡ true → F.state flash.new ≡ F.state flash.old }
         ensures changes { entry.new.changes ≡ entry.old.changes }
         ensures size { entry.new.size ≡ entry.old.size }
-        ensures frame { ChangesRegion self.old.bank (F.state flash.old) (F.state flash.new) }
+        ensures frame { ChangesBanks (F.state flash.old) (F.state flash.new) }
+        ensures bank { ChangesRegion self.old.bank (F.state flash.old) (F.state flash.new) }
         ensures moves { OnOk result ((F.state flash.new).counts.moves
             ≡ raised (F.state flash.old).counts.moves 4) }
         ensures bound { (F.state flash.new).counts.moves ≤ (F.state flash.old).counts.moves + 4 }

@@ -10,7 +10,7 @@ ghost use Rattle.bench_model.specs.Regions.{KeepsImages};
 ghost use Rattle.cu_base.specs.Causes.{HasCauseOf};
 ghost use Rattle.var_log.specs.Changes.{keeps_limits};
 ghost use Rattle.var_log.specs.Counts.{raised};
-ghost use Rattle.var_log.specs.Logs.{ChangesBanks, HasBanks, IsLive, StandsOn, is_stale};
+ghost use Rattle.var_log.specs.Logs.{ChangesBanks, HasBanks, IsFresh, IsLive, StandsOn, is_stale};
 ghost use Rattle.var_log.specs.Opens.{FoundOn, IsChosen, IsFlashOrMemory, IsFoundIn};
 ghost use Rattle.var_log.specs.Opens.{IsReadingFault, KeepsStores, OpenAnswers, opening_moves};
 
@@ -183,6 +183,7 @@ fn read_log<F: Flash>(alloc: Global, flash: &mut F) -> Result<Found, LogFault>
         → FoundOn (F.state flash.old).contents.bytes result }
     ensures limits { IfOk result (λ f. All (λ c. IsTrue (keeps_limits c)) f.live.items) }
     ensures size { IfOk result (λ f. length ((F.state flash.old).contents.bytes 0) ≡ f.log.size) }
+    ensures fresh { IfOk result (λ f. IsFresh f.log) }
     ensures only { IsReadingFault result }
     ensures frame { ChangesCounts (F.state flash.old) (F.state flash.new) }
     ensures moves { (F.state flash.new).counts.moves ≡ (F.state flash.old).counts.moves }
@@ -215,6 +216,7 @@ impl VarLog {
         ensures stands { IfOk result (λ r. StandsOn r.0 (F.state flash.new)) }
         ensures live { IfOk result (λ r. IsLive r.1.items (F.state flash.new)) }
         ensures limits { IfOk result (λ r. All (λ c. IsTrue (keeps_limits c)) r.1.items) }
+        ensures fresh { IfOk result (λ r. IsFresh r.0) }
         ensures only { is_stale result ≡ false }
         ensures frame { ChangesBanks (F.state flash.old) (F.state flash.new) }
         ensures moves { (F.state flash.old).contents.told ≡ true

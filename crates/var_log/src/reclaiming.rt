@@ -12,7 +12,7 @@ ghost use Rattle.var_log.specs.Changes.{has_sizes, keeps_limits};
 ghost use Rattle.var_log.specs.Counts.{raised, with_room};
 ghost use Rattle.var_log.specs.Logs.{free_of, HasBanks, LiesOn, StandsOn, is_stale, is_full};
 ghost use Rattle.var_log.specs.Logs.{is_bank_full, is_log_full, IsLive, KeepsVariables};
-ghost use Rattle.var_log.specs.Logs.{ReclaimLeaves, RoomLeaves, StaysUnlessFlash};
+ghost use Rattle.var_log.specs.Logs.{ChangesBanks, ReclaimLeaves, RoomLeaves, StaysUnlessFlash};
 ghost use Rattle.var_log.specs.Moves.{IsReclaiming, Reclaims};
 ghost use Rattle.var_log.specs.Records.{body_of, record_size};
 
@@ -46,12 +46,14 @@ impl VarLog {
         ensures images { self.old.stale ≡ false
             → KeepsVariables (F.state flash.old) (F.state flash.new) }
         ensures free { OnOk result (bytes ≤ free_of self.new) }
+        ensures next { OnOk result (self.new.seq < 2 ^ 64 - 1) }
         ensures stands { OnOk result (StandsOn self.new (F.state flash.new)) }
         ensures refused { is_stale result ≡ self.old.stale }
         ensures err { StaysUnlessFlash (F.state flash.old) (F.state flash.new) result }
         ensures full { self.old.stale ≡ false → is_full result
             ≡ is_log_full (record_size 2 (length (body_of live.now.items))) bytes self.old }
-        ensures frame { ChangesRegion (1 - self.old.bank) (F.state flash.old) (F.state flash.new) }
+        ensures frame { ChangesBanks (F.state flash.old) (F.state flash.new) }
+        ensures bank { ChangesRegion (1 - self.old.bank) (F.state flash.old) (F.state flash.new) }
         ensures moves { OnOk result ((F.state flash.new).counts.moves
             ≡ with_room (F.state flash.old).counts.moves bytes (free_of self.old)) }
         ensures bound { (F.state flash.new).counts.moves ≤ (F.state flash.old).counts.moves + 6 }

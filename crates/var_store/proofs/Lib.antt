@@ -3,3 +3,4 @@ pub mod Entries
 pub mod NamesMade
 pub mod RefusalLemmas
 pub mod StoreLemmas
+pub mod WriteLemmas

@@ -11,6 +11,7 @@ mod note;
 mod places;
 mod prepared;
 mod store;
+mod write;
 
 pub use fault::StoreFault;
 pub use names::{VarName, VarNames};

@@ -5,7 +5,7 @@ ghost use Rattle.cu_base.specs.Causes.{HasCauseOf};
 ghost use Rattle.var_log.specs.Changes.{after, keeps_limits, no_variables};
 ghost use Rattle.var_log.specs.Counts.{raised, with_room};
 ghost use Rattle.var_log.specs.Logs.{ChangesBanks, HasBanks, HasBatch, HasBatchOrNot};
-ghost use Rattle.var_log.specs.Logs.{KeepsVariables, free_of};
+ghost use Rattle.var_log.specs.Logs.{IsFresh, KeepsVariables, free_of};
 ghost use Rattle.var_log.specs.Opens.{KeepsStores, opening_moves};
 ghost use Rattle.var_store.specs.Answers.{AnswersRoom, CommitLeaves, IsOpeningAnswer, OpensAs};
 ghost use Rattle.var_store.specs.Answers.{RoomLeft, StaysUnlessFlash, is_stale, told};
@@ -44,6 +44,7 @@ impl VarStore {
             → OpensAs (F.state flash.old).contents.bytes result }
         ensures images { KeepsStores (F.state flash.old) (F.state flash.new) }
         ensures stands { IfOk result (λ s. Stands s (F.state flash.new)) }
+        ensures fresh { IfOk result (λ s. IsFresh s.log) }
         ensures only { IsOpeningAnswer result }
         ensures frame { ChangesBanks (F.state flash.old) (F.state flash.new) }
         ensures moves { (F.state flash.old).contents.told ≡ true
@@ -133,7 +134,8 @@ impl VarStore {
         ensures places { self.new.places ≡ self.old.places }
         ensures refused { AnswersRoom bytes self.old result }
         ensures err { StaysUnlessFlash (F.state flash.old) (F.state flash.new) result }
-        ensures frame { ChangesRegion (1 - self.old.log.bank) (F.state flash.old)
+        ensures frame { ChangesBanks (F.state flash.old) (F.state flash.new) }
+        ensures bank { ChangesRegion (1 - self.old.log.bank) (F.state flash.old)
             (F.state flash.new) }
         ensures moves { OnOk result ((F.state flash.new).counts.moves
             ≡ with_room (F.state flash.old).counts.moves bytes (free_of self.old.log)) }
@@ -147,10 +149,7 @@ impl VarStore {
             Err(_) => return Err(StoreFault::Memory),
         };
         match self.log.room(alloc, flash, &live, bytes) {
-            Ok(()) => {
-                let _last = self.log.seq();
-                Ok(())
-            }
+            Ok(()) => Ok(()),
             Err(fault) => Err(told(fault)),
         }
     }
@@ -173,7 +172,8 @@ impl VarStore {
         ensures stands { OnOk result (Stands self.new (F.state flash.new)) }
         ensures refused { is_stale result ≡ self.old.log.stale }
         ensures err { self.old.log.stale ≡ true → F.state flash.new ≡ F.state flash.old }
-        ensures frame { ChangesRegion self.old.log.bank (F.state flash.old) (F.state flash.new) }
+        ensures frame { ChangesBanks (F.state flash.old) (F.state flash.new) }
+        ensures bank { ChangesRegion self.old.log.bank (F.state flash.old) (F.state flash.new) }
         ensures moves { OnOk result ((F.state flash.new).counts.moves
             ≡ raised (F.state flash.old).counts.moves 4) }
         ensures bound { (F.state flash.new).counts.moves ≤ (F.state flash.old).counts.moves + 4 }

@@ -5,8 +5,8 @@ use Rattle.mem_bench.specs.Tables.{seen_through}
 use Rattle.mem_bench.proofs.SeenLemmas.{piece_seen}
 use Rattle.mem_bench.proofs.blocks.Blocks.write_piece.Goals as goal
 
-pub returns-clause-written : goal.returns-clause-written
-returns-clause-written c = λ size within.
+pub returns-else-bytes-eq-BLOCK-clause-written : goal.returns-else-bytes-eq-BLOCK-clause-written
+returns-else-bytes-eq-BLOCK-clause-written c = λ size within.
     ap (λ (r : RoomValue). seen_through size c.keep-start.new.self.table.items r.kept)
     c.write.ensures.value
     ∙ piece_seen size c.keep-start.new.self.table.items c.keep-start.new.self.made

@@ -1,0 +1,6 @@
+pub mod Last
+pub mod Numbers
+pub mod Progress
+pub mod Records
+pub mod Variables
+pub mod Holds

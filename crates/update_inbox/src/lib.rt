@@ -1,0 +1,14 @@
+//! What an operating system asks of the platform while it runs: that it takes the capsule files at
+//! the next boot. Each call opens the store of variables and commits at most one batch.
+#![tactic(auto)]
+
+mod checks;
+mod fault;
+mod opening;
+mod request;
+mod sets;
+mod staging;
+
+pub use fault::InboxFault;
+pub use request::signal;
+pub use staging::update_capsule;
