@@ -5,7 +5,7 @@ Usage: python3 bench/bench.py [PROGRAM]
 
 PROGRAM is crates/measures/out/measures unless another is named; `rt run` in crates/measures makes it. Each command runs
 nine times, and the least time counts. The start of a process alone is measured too (the program with no word). `cp` copies
-a file of 64 MiB. The time of `join` is what it takes more than `list`, which lays the same memory. Memory of `layout` is
+a file of 64 MiB, and `cat` reads it. The time of `join` is what it takes more than `list`, which lays the same memory. Memory of `layout` is
 the greatest resident set, told by a process that holds little itself. A wish that is not met ends the run with 1.
 """
 import os
@@ -18,7 +18,7 @@ HERE = os.path.dirname(os.path.abspath(__file__))
 PROGRAM = os.path.join(HERE, "..", "crates", "measures", "out", "measures")
 IMAGE = 67_108_864
 MEBIBYTE = 2**20
-WORDS = ["layout", "image", "small", "slot", "walk", "list", "join", "log", "log_reads", "commits"]
+WORDS = ["layout", "image", "small", "slot", "walk", "list", "join", "log", "log_reads", "commits", "feed"]
 OPENS = 20
 COMMITS = 20_000
 
@@ -30,6 +30,7 @@ def main():
         with open(path, "wb") as file:
             file.write(b"\x77" * IMAGE)
         cp = measure(["cp", path, copy], copy)
+        cat = measure(["cat", path], copy)
         start = measure([program], copy)
         took = {word: measure([program, word], copy) for word in WORDS}
     join = took["join"] - took["list"]
@@ -47,6 +48,7 @@ def main():
         ("join: a list of one block of 64 MiB", f"{join / cp:.1f} times cp", "3 times", join < 3 * cp),
         ("log: a full bank of 1 MiB opened, once of 20", f"{log:.2f} ms", "20 ms", log < 20),
         ("log_reads: made, and read 20 times", f"{took['log_reads']:.1f} ms", "", True),
+        ("feed: a delivery of 64 MiB in pieces", f"{took['feed'] / cat:.1f} times cat", "1.5 times", took["feed"] < 1.5 * cat),
         ("commits: of one of 16 variables of 64 bytes", f"{commits:,.0f} a second", "", True),
     ]
     if memory is not None:

@@ -1,2 +1,16 @@
 pub mod ToldLemmas
 pub mod SpanLemmas
+pub mod Within
+pub mod Reaches
+pub mod Goings
+pub mod Steps
+pub mod CapsuleSteps
+pub mod ItemSteps
+pub mod HeadLemmas
+pub mod ImageSteps
+pub mod FrontSteps
+pub mod TurnSteps
+pub mod OffsetSteps
+pub mod ReadSteps
+pub mod Joined
+pub mod FeedSteps

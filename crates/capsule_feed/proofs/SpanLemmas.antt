@@ -1,6 +1,7 @@
 -- The spans of an accepted whole are the whole.
 use Rattle.std.proofs.Common.{◌≡◌, ℕ, zero, suc, ◌+◌, ◌*◌, ◌-◌, ◌≤◌, min, max}
-use Rattle.std.proofs.Common.{List, [], ◌∷◌, ◌++◌, length, drop, ltb, Option, Some, None, refl, sym, ap}
+use Rattle.std.proofs.Common.{List, [], ◌∷◌, ◌++◌, length, drop, ltb, Option, Some, None, refl}
+use Rattle.std.proofs.Common.{sym, ap}
 use Rattle.std.proofs.Common.{◌∙◌, inl, inr, arith}
 use Rattle.std.specs.Prelude.{option_map}
 use Rattle.std.specs.List.{flat_map, range_with_len}
@@ -14,29 +15,28 @@ use Rattle.cu_base.specs.Refusals.{first_refusal}
 use Rattle.cu_base.proofs.Rows.{first-parts}
 use Rattle.fmp_headers.specs.CapsuleHeader.{header_size, image_size}
 use Rattle.capsule_grammar.specs.Accepted.{IsFront}
-use Rattle.capsule_grammar.specs.Refusals.{is_fmp_guid, body_of, item_count, driver_count, list_end}
+use Rattle.capsule_grammar.specs.Refusals.{is_fmp_guid, body_of, item_count, driver_count}
+use Rattle.capsule_grammar.specs.Refusals.{list_end}
 use Rattle.fmp_headers.specs.ImageHeader.{image_version, image_header_size}
-use Rattle.capsule_grammar.specs.Refusals.{item, image_parts_size, bound, refusal, capsule_rows, body_rows}
+use Rattle.capsule_grammar.specs.Refusals.{item, image_parts_size, bound, refusal, capsule_rows}
+use Rattle.capsule_grammar.specs.Refusals.{body_rows}
 use Rattle.capsule_grammar.proofs.Offsets.{bound_ends}
 use Rattle.capsule_grammar.proofs.Read.{is_front}
 use Rattle.capsule_grammar.proofs.Lists.{field_split}
 use Rattle.capsule_feed.specs.Structures.{Structure, placed, within, cut_to, capsules_from}
 use Rattle.capsule_feed.specs.Structures.{capsule_structures, body_structures, behind_fmp_head}
 use Rattle.capsule_feed.specs.Structures.{items_from, item_structures, image_parts, item_size}
-use Rattle.capsule_feed.specs.Structures.{structure}
-use Rattle.capsule_feed.specs.Told.{Told, told_of, told_from, capsule_all_told, joined, spans_of, total_length}
-use Rattle.capsule_feed.proofs.ToldLemmas.{told_same, pair, told_from_suc, told_at}
+use Rattle.capsule_feed.specs.Structures.{structure, size_of}
+use Rattle.capsule_feed.specs.Told.{Told, told_of, told_from, told_at, capsule_all_told, joined}
+use Rattle.capsule_feed.specs.Told.{spans_of}
+use Rattle.capsule_feed.specs.Told.{total_length}
+use Rattle.capsule_feed.proofs.ToldLemmas.{told_same, pair, told_from_suc}
 use Rattle.capsule_feed.specs.declared.span.Span.{Span}
 use Rattle.capsule_feed.specs.declared.span.SpanKind.TheVariants as kinds
 
 -- ---- spans that follow one another, up to a place
 
--- the sizes in sum
-abbrev pub size_of : List Structure → ℕ
-size_of [] = 0
-size_of (s ∷ ss) = s.size + size_of ss
-
-size-append : (xs ys : List Structure) → size_of (xs ++ ys) ≡ size_of xs + size_of ys
+pub size-append : (xs ys : List Structure) → size_of (xs ++ ys) ≡ size_of xs + size_of ys
 size-append [] ys = omega arith
 size-append (s ∷ xs) ys =
     let ih : size_of (xs ++ ys) ≡ size_of xs + size_of ys = size-append xs ys in
@@ -193,7 +193,7 @@ capsule_least c rest front =
 
 -- ---- the whole
 
-capsules_then : (more c : ℕ) (rest : List ℕ) → capsules_from (suc more) c rest
+pub capsules_then : (more c : ℕ) (rest : List ℕ) → capsules_from (suc more) c rest
     ≡ capsule_structures c rest ++ capsules_from more (c + 1) (drop (image_size rest) rest)
 unfolding capsules_from
 capsules_then more c rest = refl

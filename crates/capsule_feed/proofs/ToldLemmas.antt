@@ -1,6 +1,8 @@
 -- What is told of a whole is its refusal.
-use Rattle.std.proofs.Common.{◌≡◌, ℕ, zero, suc, ◌+◌, ◌*◌, ◌-◌, ◌<◌, Bool, true, false, cond, List, [], ◌∷◌}
-use Rattle.std.proofs.Common.{◌++◌, length, min, drop, map, ltb, Option, Some, None, refl, sym, ap, ◌∙◌}
+use Rattle.std.proofs.Common.{◌≡◌, ℕ, zero, suc, ◌+◌, ◌*◌, ◌-◌, ◌<◌, Bool, true, false, cond}
+use Rattle.std.proofs.Common.{List, [], ◌∷◌}
+use Rattle.std.proofs.Common.{◌++◌, length, min, drop, map, ltb, Option, Some, None, refl, sym}
+use Rattle.std.proofs.Common.{ap, ◌∙◌}
 use Rattle.std.proofs.Common.{inl, inr, arith}
 use Rattle.std.specs.Prelude.{option_map}
 use Rattle.std.specs.List.{flat_map, range_with_len}
@@ -14,18 +16,24 @@ use Rattle.fmp_headers.specs.CapsuleHeader.{header_size, image_size}
 use Rattle.capsule_grammar.specs.declared.refusal.Why.{Why}
 use Rattle.capsule_grammar.specs.declared.refusal.Why.TheVariants.{TooManyCapsules}
 use Rattle.capsule_grammar.specs.declared.value.Capsule.{Capsule}
-use Rattle.capsule_grammar.specs.Refusals.{refusal, rows, capsule_rows, fmp_front_rows, offset_rows}
-use Rattle.capsule_grammar.specs.Refusals.{image_rows, all_offset_rows, all_image_rows, fmp_rows}
-use Rattle.capsule_grammar.specs.Refusals.{is_fmp_guid, body_of, driver_count, image_count, item_count}
+use Rattle.capsule_grammar.specs.Refusals.{refusal, rows, capsule_rows, fmp_front_rows}
+use Rattle.capsule_grammar.specs.Refusals.{offset_rows}
+use Rattle.capsule_grammar.specs.Refusals.{image_rows, all_offset_rows, all_image_rows}
+use Rattle.capsule_grammar.specs.Refusals.{fmp_rows}
+use Rattle.capsule_grammar.specs.Refusals.{is_fmp_guid, body_of, driver_count, image_count}
+use Rattle.capsule_grammar.specs.Refusals.{item_count}
 use Rattle.capsule_grammar.specs.Refusals.{bound, item}
 use Rattle.capsule_grammar.specs.Reading.{capsule_of}
 use Rattle.capsule_grammar.specs.Fronts.{IsAccepted}
-use Rattle.capsule_grammar.proofs.BackLemmas.{Before, before_grown, spells_all, one_more, refused_rest}
+use Rattle.capsule_grammar.proofs.BackLemmas.{Before, before_grown, spells_all, one_more}
+use Rattle.capsule_grammar.proofs.BackLemmas.{refused_rest}
 use Rattle.capsule_grammar.proofs.FoundLemmas.{accepted_or_refused, both}
 use Rattle.capsule_feed.specs.Told.{Told, reading, capsule_told, fmp_front_told, offset_told}
-use Rattle.capsule_feed.specs.Told.{offsets_told, image_told, images_told, items_told, body_told}
-use Rattle.capsule_feed.specs.Told.{front_reach, image_reach, capsule_all_told, told_from, told_of}
-use Rattle.capsule_feed.specs.Told.{told_behind, IsToldRight}
+use Rattle.capsule_feed.specs.Told.{offsets_told, image_told, images_told, items_told}
+use Rattle.capsule_feed.specs.Told.{body_told}
+use Rattle.capsule_feed.specs.Told.{front_reach, image_reach, capsule_all_told, told_from}
+use Rattle.capsule_feed.specs.Told.{told_of}
+use Rattle.capsule_feed.specs.Told.{told_at, IsToldRight}
 
 -- ---- the tables are the same, but for the places where they are told
 
@@ -102,19 +110,12 @@ told_same rest = first_same (capsule_all_told rest) ∙ ap first_refusal (all_sa
 
 -- ---- capsules back to back
 
--- what is told by the first capsule of the rest, or behind it
-abbrev pub told_at : ℕ → ℕ → List ℕ → Option Told → Option Told
-told_at more at rest (Some t) = Some (told_behind at t)
-told_at more at rest None =
-    cond (ltb (image_size rest) (length rest))
-    (told_from more (at + image_size rest) (drop (image_size rest) rest)) None
-
 pub told_from_suc : (more at : ℕ) (rest : List ℕ) → told_from (suc more) at rest
     ≡ told_at more at rest (first_refusal (capsule_all_told rest))
 unfolding told_from
 told_from_suc more at rest = refl
 
-told_from_zero : (at : ℕ) (rest : List ℕ) → told_from zero at rest
+pub told_from_zero : (at : ℕ) (rest : List ℕ) → told_from zero at rest
     ≡ Some (record { reach = at; at = at; why = TooManyCapsules })
 unfolding told_from
 told_from_zero at rest = refl

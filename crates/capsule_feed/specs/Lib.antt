@@ -1,2 +1,4 @@
 pub mod Structures
 pub mod Told
+pub mod Cursors
+pub mod Feeds

@@ -6,12 +6,14 @@ use Rattle.std.specs.List.{flat_map, range_with_len}
 use Rattle.cu_base.specs.Fields.{field, number_at}
 use Rattle.fmp_headers.specs.CapsuleHeader.{header_size, image_size}
 use Rattle.fmp_headers.specs.ImageHeader.{image_header_size, image_version}
-use Rattle.capsule_grammar.specs.Refusals.{is_fmp_guid, body_of, driver_count, item_count, list_end}
+use Rattle.capsule_grammar.specs.Refusals.{is_fmp_guid, body_of, driver_count, item_count}
+use Rattle.capsule_grammar.specs.Refusals.{list_end}
 use Rattle.capsule_grammar.specs.Refusals.{bound, item, image_parts_size}
 use Rattle.capsule_feed.specs.declared.span.Span.{Span}
 use Rattle.capsule_feed.specs.declared.span.SpanKind.{SpanKind}
 use Rattle.capsule_feed.specs.declared.span.SpanKind.TheVariants.{Header, Ext, Other, FmpHead}
-use Rattle.capsule_feed.specs.declared.span.SpanKind.TheVariants.{Offsets, Lead, Driver, ImageHead}
+use Rattle.capsule_feed.specs.declared.span.SpanKind.TheVariants.{Offsets, Lead, Driver}
+use Rattle.capsule_feed.specs.declared.span.SpanKind.TheVariants.{ImageHead}
 use Rattle.capsule_feed.specs.declared.span.SpanKind.TheVariants.{Image, Vendor, Pad}
 
 -- so many bytes of one kind, in a capsule and an item of these numbers
@@ -84,6 +86,11 @@ unfoldable pub capsules_from : ℕ → ℕ → List ℕ → List Structure
 capsules_from zero c rest = []
 capsules_from (suc more) c rest =
     capsule_structures c rest ++ capsules_from more (c + 1) (drop (image_size rest) rest)
+
+-- the sizes of structures in sum
+abbrev pub size_of : List Structure → ℕ
+size_of [] = 0
+size_of (s ∷ structures) = s.size + size_of structures
 
 -- each structure begins where the one before it ends, the first at this place
 abbrev pub placed : ℕ → List Structure → List Span

@@ -11,8 +11,10 @@ use Rattle.capsule_grammar.specs.declared.refusal.Why.{Why}
 use Rattle.capsule_grammar.specs.declared.refusal.Why.TheVariants.{TooManyCapsules}
 use Rattle.capsule_grammar.specs.declared.value.Capsule.{Capsule}
 use Rattle.capsule_grammar.specs.BackToBack.{SpellsAll, RefusedAll}
-use Rattle.capsule_grammar.specs.Refusals.{capsule_rows, fmp_front_rows, offset_rows, image_rows}
-use Rattle.capsule_grammar.specs.Refusals.{is_fmp_guid, body_of, driver_count, item_count, list_end}
+use Rattle.capsule_grammar.specs.Refusals.{capsule_rows, fmp_front_rows, offset_rows}
+use Rattle.capsule_grammar.specs.Refusals.{image_rows}
+use Rattle.capsule_grammar.specs.Refusals.{is_fmp_guid, body_of, driver_count, item_count}
+use Rattle.capsule_grammar.specs.Refusals.{list_end}
 use Rattle.capsule_grammar.specs.Refusals.{bound, item}
 use Rattle.capsule_feed.specs.Structures.{structures, within}
 use Rattle.capsule_feed.specs.declared.span.Span.{Span}
@@ -99,6 +101,15 @@ told_from (suc more) at rest =
           then told_from more (at + image_size rest) (drop (image_size rest) rest)
           else None
     ]
+
+-- what is told of the bytes from this place on, where this is what their first capsule is refused
+-- for, if it is
+abbrev pub told_at : ℕ → ℕ → List ℕ → Option Told → Option Told
+told_at more at rest (Some t) = Some (told_behind at t)
+told_at more at rest None =
+    if nat_lt (image_size rest) (length rest)
+    then told_from more (at + image_size rest) (drop (image_size rest) rest)
+    else None
 
 -- the refusal of a whole and the place where it is told, and None where it is accepted
 abbrev pub told_of : List ℕ → Option Told

@@ -16,7 +16,11 @@ use var_store::VarStore;
 
 /// The batch that drops the progress of all files but those of these serials: it sets `Progress` to
 /// the entries that stay, or deletes it where none stays. It is empty where all stay.
-pub fn prune_batch(alloc: Global, store: &VarStore, serials: &[u64]) -> Result<Batch, NoMemory>
+pub(crate) fn prune_batch(
+    alloc: Global,
+    store: &VarStore,
+    serials: &[u64],
+) -> Result<Batch, NoMemory>
     ensures value { IfOk result
         (λ batch. batch.items ≡ prune_changes (variables_of store.now) serials.now) }
 {

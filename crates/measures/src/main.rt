@@ -5,6 +5,7 @@
 
 mod boards;
 mod commits;
+mod delivery;
 mod image;
 mod lists;
 mod opens;
@@ -25,8 +26,8 @@ use stop::Stop;
 /// that board; an image of 64 MiB is set as the slot of a device; a scatter list of 65,536
 /// descriptors in 256 segments is walked; a list of one block of 64 MiB is laid; it is laid and
 /// joined; a full bank of variables is opened 20 times; that bank is read as
-/// often; a batch is committed 20,000 times.
-const WORDS: [&str; 10] = [
+/// often; a batch is committed 20,000 times; a delivery of 64 MiB is fed in pieces.
+const WORDS: [&str; 11] = [
     "layout",
     "image",
     "small",
@@ -37,6 +38,7 @@ const WORDS: [&str; 10] = [
     "log",
     "log_reads",
     "commits",
+    "feed",
 ];
 
 fn main(rt: HostRuntime) -> ExitCode {
@@ -50,7 +52,8 @@ fn main(rt: HostRuntime) -> ExitCode {
         Some(6) => lists::measure_join(rt.alloc()),
         Some(7) => opens::measure(rt.alloc()),
         Some(8) => opens::measure_reads(rt.alloc()),
-        Some(_) => commits::measure(rt.alloc()),
+        Some(9) => commits::measure(rt.alloc()),
+        Some(_) => delivery::measure(rt.alloc()),
         None => tell_words(&rt),
     };
     match done {

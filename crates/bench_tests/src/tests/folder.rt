@@ -1,11 +1,26 @@
 //! Cases of the folder and of the memory.
 
 use super::{arm, bench, cycle, fail};
-use bench_model::{Bench, Choice, LayFault, PhysMem, Segments, Volume, VolumeFault, is_file_name};
+use bench_model::{
+    Bench, Choice, LayFault, MAX_FILE_BYTES, PhysMem, Segments, Volume, VolumeFault, is_file_name,
+};
 use cu_base::{Failed, NoMemory, Text};
 use mem_bench::MemBench;
 use std::process::Abort;
 use std::test::Fail;
+
+/// Puts a file into the folder.
+fn put_bytes(
+    rt: &(impl Abort + AllocGlobal),
+    bench: &mut MemBench,
+    name: &str,
+    bytes: &[u8],
+) -> Result<Result<u64, VolumeFault>, NoMemory> {
+    assert!(rt; is_file_name(name), "a file's name");
+    assert!(rt; bytes.len() <= MAX_FILE_BYTES as usize, "a file's size");
+    let name = Text::from_str(rt.alloc(), name)?;
+    Ok(bench.put(rt.alloc(), &name, bytes))
+}
 
 /// Puts a file of one byte into the folder.
 fn put(
@@ -14,9 +29,7 @@ fn put(
     name: &str,
     byte: u8,
 ) -> Result<Result<u64, VolumeFault>, NoMemory> {
-    assert!(rt; is_file_name(name), "a file's name");
-    let name = Text::from_str(rt.alloc(), name)?;
-    Ok(bench.put(rt.alloc(), &name, &[byte]))
+    put_bytes(rt, bench, name, &[byte])
 }
 
 /// The name, serial and size of the only file, or none where there is no file.
@@ -75,6 +88,30 @@ fn the_65th_file_is_refused(rt: HostRuntime) -> Result<(), Fail> {
         Ok(65),
         "a name that is there"
     );
+    Ok(())
+}
+
+/// 32 files of 67,108,864 bytes have 2,147,483,648 in sum, which is the limit.
+#[test]
+fn a_byte_above_the_sum_of_the_folder_is_refused(rt: HostRuntime) -> Result<(), Fail> {
+    let mut bench = bench(&rt)?;
+    let bytes = vec![in rt.alloc(); 0x77; 67_108_864]?;
+    for k in 0..32u8 {
+        let names = ["a", "b", "c", "d", "e", "f", "g", "h"];
+        let (Some(high), Some(low)) = (names.get(k as usize / 8), names.get(k as usize % 8)) else {
+            break;
+        };
+        let name = format!(in rt.alloc(); "{high}{low}")?;
+        let answer = put_bytes(&rt, &mut bench, name.as_str(), bytes.as_slice())?;
+        assert_eq!(rt; answer, Ok(u64::from(k) + 1), "file {k}");
+    }
+    assert_eq!(rt; put(&rt, &mut bench, "x", 0)?, Err(VolumeFault::Full));
+    assert_eq!(rt;
+        put(&rt, &mut bench, "aa", 0)?,
+        Ok(33),
+        "one that is there gives room"
+    );
+    assert_eq!(rt; put(&rt, &mut bench, "x", 0)?, Ok(34));
     Ok(())
 }
 

@@ -1,6 +1,6 @@
 use Rattle.std.proofs.Common.{◌∙◌, ap}
 use Rattle.bench_model.specs.Bench.{BenchValue, Contents}
-use Rattle.bench_tests.proofs.slots.begun.Goals as goal
+use Rattle.slot_tests.proofs.slots.begun.Goals as goal
 
 pub returns-clause-stable : goal.returns-clause-stable
 returns-clause-stable g c = λ told. record {
