@@ -21,6 +21,17 @@ use Rattle.capsule_feed.specs.Structures.{structures, within, cut_to, capsules_f
 use Rattle.capsule_feed.specs.Told.{Told, told_of, told_from, told_end, spans_of}
 use Rattle.capsule_feed.specs.Cursors.{Goes, HasRead, HoldsOfSome, IsBetween, IsFated, IsNext}
 use Rattle.capsule_feed.specs.Cursors.{StandAt, span_of}
+use Rattle.capsule_feed.specs.Cursors.{InImageStart, InOffsets, InParts, InStructure, ItemsAre}
+use Rattle.capsule_feed.specs.Cursors.{image_place, pad_parts, place_of, vendor_parts}
+use Rattle.capsule_feed.specs.Feeds.{kept_by, kept_in}
+use Rattle.capsule_feed.specs.Structures.{Structure, image_parts, structure}
+use Rattle.capsule_feed.specs.declared.span.SpanKind.{SpanKind}
+use Rattle.capsule_feed.specs.declared.span.SpanKind.TheVariants.{Header, Ext, Other, FmpHead}
+use Rattle.capsule_feed.specs.declared.span.SpanKind.TheVariants.{Offsets, Lead, Driver, ImageHead}
+use Rattle.capsule_feed.specs.declared.span.SpanKind.TheVariants.{Image, Vendor, Pad}
+use Rattle.capsule_grammar.specs.Refusals.{body_of, item}
+use Rattle.fmp_headers.specs.ImageHeader.{image_header_size, image_version}
+use Rattle.std.proofs.lemmas.List.{get_or-take}
 use Rattle.capsule_feed.specs.Feeds.{FeedValue, IfMemory, IfTold, IsAnswered, IsAnswerOf}
 use Rattle.capsule_feed.specs.Feeds.{IsWholeOf, StandsFor}
 use Rattle.capsule_feed.specs.declared.cursor.Cursor.{Cursor}
@@ -396,4 +407,115 @@ read_into c own head first x size none fresh slice old now whole h is_none is_sl
   came = h.came;
   events = e ∙ ap (λ (l : List Span). old ++ l) (is_slice ∙ h.events
       ∙ ap (λ (l : List Span). l ++ within first x (structures whole)) is_none);
+}
+
+-- ---- the offsets that are kept
+
+cut_items : (h s d n : ℕ) (own rest : List ℕ) → ItemsAre h s d n own rest
+    → ItemsAre h s d n (take n own) rest
+cut_items h s d n own rest i = record {
+  fmp = i.fmp;
+  bounds = i.bounds;
+  each = λ k low. get_or-take n own k 0 low ∙ i.each k low;
+}
+
+cut_parts : (c : Cursor) (own : List ℕ) (from to : ℕ) (next : List ℕ → List Structure)
+    (whole : List ℕ) → InParts c own from to next whole
+    → InParts c (take c.items own) from to next whole
+cut_parts c own from to next whole h = record {
+  items = cut_items c.header_size c.image_size c.drivers c.items own (drop c.start whole) h.items;
+  parts = h.parts;
+  at = h.at;
+  stop = h.stop;
+  left = h.left;
+}
+
+cut_image_start : (c : Cursor) (own whole : List ℕ) → InImageStart c own whole
+    → InImageStart c (take c.items own) whole
+cut_image_start c own whole h = record {
+  kind = h.kind;
+  items = cut_items c.header_size c.image_size c.drivers c.items own (drop c.start whole) h.items;
+  here = h.here;
+  low = h.low;
+  at = h.at;
+  end = h.end;
+  stop = h.stop;
+  left = h.left;
+}
+
+cut_inside : (kind : SpanKind) (c : Cursor) (own whole : List ℕ) → InStructure kind c own whole
+    → InStructure kind c (take (kept_in kind c.tested c.items) own) whole
+cut_inside Header c own whole h = h
+cut_inside Ext c own whole h = h
+cut_inside Other c own whole h = h
+cut_inside FmpHead c own whole h = h
+cut_inside Offsets c own whole h =
+    let all : take (min c.tested c.items) own ≡ own =
+    take_all (min c.tested c.items) own (omega (arith, h.offsets.long, h.here)) in
+    subst (λ (l : List ℕ). InOffsets c l whole) (sym all) h
+cut_inside Lead c own whole h = record {
+  items = cut_items c.header_size c.image_size c.drivers c.items own (drop c.start whole) h.items;
+  at = h.at;
+  stop = h.stop;
+  left = h.left;
+}
+cut_inside Driver c own whole h = record {
+  items = cut_items c.header_size c.image_size c.drivers c.items own (drop c.start whole) h.items;
+  here = h.here;
+  low = h.low;
+  at = h.at;
+  stop = h.stop;
+  left = h.left;
+}
+cut_inside ImageHead c own whole h = elim h [
+  | inl before ↦ inl (before.0, cut_image_start c own whole before.1)
+  | inr behind ↦ inr (
+    behind.0,
+    cut_parts c own (place_of c.start (drop c.start whole) c.item)
+        (image_place c.start (drop c.start whole) c.item)
+        (λ rest. structure ImageHead c.capsule c.item
+        (image_header_size (image_version (item (body_of rest) c.item)))
+        ∷ image_parts c.capsule (body_of rest) c.item) whole behind.1,
+  )
+]
+cut_inside Image c own whole h =
+    cut_parts c own (image_place c.start (drop c.start whole) c.item) c.vendor_at
+    (λ rest. image_parts c.capsule (body_of rest) c.item) whole h
+cut_inside Vendor c own whole h =
+    cut_parts c own c.vendor_at c.pad_at (vendor_parts c.capsule c.item) whole h
+cut_inside Pad c own whole h =
+    cut_parts c own c.pad_at c.item_end (pad_parts c.capsule c.item) whole h
+
+cut_fated : (f : Fate) (c : Cursor) (own head : List ℕ) (x : ℕ) (whole : List ℕ)
+    → IsFated f c own head x whole
+    → IsFated f c (take (kept_by f c.kind c.tested c.items) own) head x whole
+cut_fated Reads c own head x whole r = record {
+  more = r.more;
+  later = r.later;
+  inside = cut_inside c.kind c own whole r.inside;
+  gathered = r.gathered;
+}
+cut_fated (Tells t) c own head x whole r = r
+cut_fated Ends c own head x whole r = r
+
+-- a feed stands where it stood with the offsets that are kept
+pub stands_cut : (total came : ℕ) (c : Cursor) (head own : List ℕ) (stream : List ℕ)
+    → StandsFor (feed_made total came c head own) stream
+    → StandsFor (feed_made total came c head
+    (take (kept_by c.fate c.kind c.tested c.items) own)) stream
+stands_cut total came c head own stream s = record {
+  bytes = s.bytes;
+  small = s.small;
+  within = s.within;
+  came = s.came;
+  goes = λ whole w.
+      let g = s.goes whole w in
+      record {
+        hand = g.hand;
+        begins = g.begins;
+        reached = g.reached;
+        ahead = g.ahead;
+        within = g.within;
+        fate = cut_fated c.fate c own head (min came c.stop) whole g.fate;
+      };
 }

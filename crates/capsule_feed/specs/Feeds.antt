@@ -11,6 +11,10 @@ use Rattle.capsule_feed.specs.Told.{Told, told_of}
 use Rattle.capsule_feed.specs.declared.cursor.Cursor.{Cursor}
 use Rattle.capsule_feed.specs.declared.cursor.Fate.{Fate}
 use Rattle.capsule_feed.specs.declared.cursor.Fate.TheVariants.{Reads, Tells, Ends}
+use Rattle.capsule_feed.specs.declared.span.SpanKind.{SpanKind}
+use Rattle.capsule_feed.specs.declared.span.SpanKind.TheVariants.{Header, Ext, Other, FmpHead}
+use Rattle.capsule_feed.specs.declared.span.SpanKind.TheVariants.{Offsets, Lead, Driver, ImageHead}
+use Rattle.capsule_feed.specs.declared.span.SpanKind.TheVariants.{Image, Vendor, Pad}
 
 -- the size of the delivery, how many bytes came, where the reader stands, what it gathered of the
 -- structure in hand, and the offsets of the capsule in hand
@@ -36,10 +40,36 @@ pub record StandsFor (feed : FeedValue) (stream : List ℕ) : Type 0 where
   pub goes : (whole : List ℕ) → IsWholeOf feed.total stream whole
       → Goes feed.cursor feed.offsets feed.head (min feed.came feed.cursor.stop) whole
 
+-- how many offsets of the capsule in hand are kept in a structure of this kind: those that are
+-- tested, and then one an item
+abbrev pub kept_in : SpanKind → ℕ → ℕ → ℕ
+kept_in Header tested items = 0
+kept_in Ext tested items = 0
+kept_in Other tested items = 0
+kept_in FmpHead tested items = 0
+kept_in Offsets tested items = min tested items
+kept_in Lead tested items = items
+kept_in Driver tested items = items
+kept_in ImageHead tested items = items
+kept_in Image tested items = items
+kept_in Vendor tested items = items
+kept_in Pad tested items = items
+
+-- the same by the reader's fate
+abbrev pub kept_by : Fate → SpanKind → ℕ → ℕ → ℕ
+kept_by Reads kind tested items = kept_in kind tested items
+kept_by (Tells r) kind tested items = 0
+kept_by Ends kind tested items = 0
+
+-- at most one offset is kept for each item of the capsule in hand
+abbrev pub IsShort : FeedValue → Type 0
+IsShort feed = length feed.offsets ≤ feed.cursor.items
+
 -- some bytes came
 pub record StandsForSome (feed : FeedValue) : Type 0 where
   pub stream : List ℕ
   pub stands : StandsFor feed stream
+  pub short : IsShort feed
 
 -- ---- what is answered
 
@@ -82,3 +112,9 @@ abbrev pub HasTold : Fate → ℕ → ℕ → Type 0
 HasTold (Tells r) stop came = stop ≤ came
 HasTold Reads stop came = ⊥
 HasTold Ends stop came = ⊥
+
+-- it holds where a refusal was answered
+abbrev pub IfRefused : {T : Type 0} → Result T DecodeFault → Type 0 → Type 0
+IfRefused (Ok value) P = Unit {0}
+IfRefused (Err (Refused refusal)) P = P
+IfRefused (Err Memory) P = Unit {0}

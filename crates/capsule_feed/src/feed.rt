@@ -5,18 +5,19 @@ ghost use Rattle.std.specs.Prelude.{None};
 ghost use Rattle.std.specs.Prelude.{OnOk, OnErr};
 ghost use Rattle.cu_base.specs.Bytes.{IsBytes};
 ghost use Rattle.capsule_feed.specs.Cursors.{Goes, HasRead, HoldsOfSome, IsNext};
-ghost use Rattle.capsule_feed.specs.Feeds.{HasTold, IfMemory, IfTold, IsAnswered, IsAnswerOf};
-ghost use Rattle.capsule_feed.specs.Feeds.{IsWholeOf, StandsFor};
+ghost use Rattle.capsule_feed.specs.Feeds.{HasTold, IfMemory, IfRefused, IfTold, IsAnswered};
+ghost use Rattle.capsule_feed.specs.Feeds.{IsAnswerOf};
+ghost use Rattle.capsule_feed.specs.Feeds.{IsShort, IsWholeOf, StandsFor, kept_by, kept_in};
 ghost use Rattle.capsule_feed.specs.Structures.{within};
 ghost use Rattle.capsule_feed.specs.Told.{spans_of, told_of};
 
-use crate::Events;
 use crate::capsules::begin_capsule;
 use crate::cursor::{Cursor, Fate};
 use crate::giving::give_all;
 use crate::head::Head;
 use crate::offset_list::OffsetList;
 use crate::reading::{Reader, read};
+use crate::{Events, SpanKind};
 use capsule_grammar::{DecodeFault, Refusal, Why};
 use cu_base::NoMemory;
 use std::alloc::Global;
@@ -61,6 +62,7 @@ impl Feed {
         ensures total { result.total ≡ total }
         ensures came { result.came ≡ 0 }
         ensures stands { StandsFor result [] }
+        ensures bound { IsShort result }
     {
         Feed {
             alloc,
@@ -88,6 +90,9 @@ impl Feed {
             ++ within (length stream) (length stream + length piece.now) (spans_of whole)) }
         ensures total { self.new.total ≡ self.old.total }
         ensures came { IfTold result (self.new.came ≡ self.old.came + length piece.now) }
+        ensures ended { IfRefused result
+            (HasTold self.new.cursor.fate self.new.cursor.stop self.new.came) }
+        ensures bound { IsShort self.new }
         ensures err { IfMemory result ((self.new ≡ self.old)
             × (events.new.items ≡ events.old.items)) }
     {
@@ -121,6 +126,7 @@ impl Feed {
             ++ within (length stream) (length stream + length piece.now) (spans_of whole)) }
         ensures total { self.new.total ≡ self.old.total }
         ensures came { OnOk result (self.new.came ≡ self.old.came + length piece.now) }
+        ensures bound { IsShort self.new }
         ensures err { OnErr result ((self.new ≡ self.old)
             × (events.new.items ≡ events.old.items)) }
     {
@@ -136,6 +142,7 @@ impl Feed {
             return Err(NoMemory);
         }
         self.offsets.forget(reader.from);
+        self.offsets.truncate(kept_offsets(&reader.cursor));
         self.came += piece.len() as u32;
         self.cursor = reader.cursor;
         self.head = reader.head;
@@ -179,6 +186,38 @@ fn told(c: &Cursor, came: u32) -> Result<(), DecodeFault>
             }
             Ok(())
         }
+    }
+}
+
+/// How many offsets a reader keeps: those of the capsule in hand, where they are asked for.
+fn kept_offsets(c: &Cursor) -> usize
+    ensures value { result ≡ kept_by c.now.fate c.now.kind c.now.tested c.now.items }
+    ensures bound { result ≤ c.now.items }
+{
+    match c.fate {
+        Fate::Reads => kept_in(c.kind, c.tested, c.items) as usize,
+        Fate::Tells(_) => 0,
+        Fate::Ends => 0,
+    }
+}
+
+/// The same in a structure of this kind.
+fn kept_in(kind: SpanKind, tested: u32, items: u32) -> u32
+    ensures value { result ≡ kept_in kind tested items }
+    ensures bound { result ≤ items }
+{
+    match kind {
+        SpanKind::Header => 0,
+        SpanKind::Ext => 0,
+        SpanKind::Other => 0,
+        SpanKind::FmpHead => 0,
+        SpanKind::Offsets => tested.min(items),
+        SpanKind::Lead => items,
+        SpanKind::Driver => items,
+        SpanKind::ImageHead => items,
+        SpanKind::Image => items,
+        SpanKind::Vendor => items,
+        SpanKind::Pad => items,
     }
 }
 

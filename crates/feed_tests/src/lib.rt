@@ -9,6 +9,8 @@ mod cuts;
 #[cfg(test)]
 mod feeds;
 #[cfg(test)]
+mod many;
+#[cfg(test)]
 mod refusals;
 #[cfg(test)]
 mod spans;

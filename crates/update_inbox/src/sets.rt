@@ -11,16 +11,16 @@ use stored_vars::StoredVar;
 use var_log::Change;
 
 /// A set of a variable that is no result.
-pub fn set_of(alloc: Global, variable: StoredVar, data: &[u8]) -> Result<Change, NoMemory>
+pub fn set_of(alloc: Global, variable: StoredVar, bytes: &[u8]) -> Result<Change, NoMemory>
     requires within { IsTrue (is_variable variable) }
     requires fixed { IsTrue (is_fixed variable) }
     ensures { IfOk result (λ c. c ≡ Set (name_of variable) (guid_of variable)
-        (attributes_of variable) data.now) }
+        (attributes_of variable) bytes.now) }
 {
     Ok(Change::Set {
         name: Text::from_str(alloc, variable.name())?,
         guid: variable.guid(),
         attributes: variable.attributes(),
-        value: Blob::from_slice(alloc, data)?,
+        value: Blob::from_slice(alloc, bytes)?,
     })
 }

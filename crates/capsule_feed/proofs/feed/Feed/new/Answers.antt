@@ -1,4 +1,4 @@
-use Rattle.std.proofs.Common.{[], arith}
+use Rattle.std.proofs.Common.{[], ℕ, List, ap, arith, length}
 use Rattle.capsule_feed.proofs.FeedSteps.{first_stands}
 use Rattle.capsule_feed.proofs.feed.Feed.new.Goals as goal
 
@@ -9,6 +9,7 @@ invariant_of-result c =
       stream = [];
       stands = first_stands c.args.total c.first_cursor.result c.new.result own
           (omega (arith, c.ranges.total.fits)) c.new.ensures (c.first_cursor.ensures own);
+      short = omega (arith, ap (λ (l : List ℕ). length l) c.new-2.ensures);
     }
 
 pub returns-clause-stands : goal.returns-clause-stands
