@@ -1,7 +1,7 @@
 -- What a call that opens the store and commits a batch answers and notes.
 use Rattle.std.specs.Prelude.{◌≡◌, ◌⊎◌, ℕ, ◌+◌, true, false, List, Option, Some, None, Result, Ok}
 use Rattle.std.specs.Prelude.{Err}
-use Rattle.std.specs.Prelude.{option_map}
+use Rattle.std.specs.Prelude.{is_some, option_map}
 use Rattle.bench_model.specs.Bench.{BenchValue}
 use Rattle.update_inbox.specs.declared.fault.InboxFault.{InboxFault}
 use Rattle.update_inbox.specs.declared.fault.InboxFault.TheVariants as inbox
@@ -95,3 +95,14 @@ pub record MovesOfBatch (batch : Variables → List Change) (old new : BenchValu
   pub are : old.contents.told ≡ true → new.counts.moves
       ≡ raised (with_room (raised old.counts.moves (opening_moves old.contents.bytes))
       (prepared_of (batch (variables_of store))).size (free_of store.log)) 4
+
+-- a number at opening is noted wherever the answer came behind the opening
+abbrev pub NotesOpened : {T : Type 0} → Result T InboxFault → Option ℕ → Type 0
+NotesOpened (Ok x) opened = is_some opened ≡ true
+NotesOpened (Err inbox.Invalid) opened = is_some opened ≡ true
+NotesOpened (Err inbox.Unsupported) opened = is_some opened ≡ true
+NotesOpened (Err inbox.Resources) opened = is_some opened ≡ true
+NotesOpened (Err inbox.Flash) opened = Unit {0}
+NotesOpened (Err inbox.Volume) opened = Unit {0}
+NotesOpened (Err inbox.NoBank) opened = Unit {0}
+NotesOpened (Err inbox.Memory) opened = Unit {0}

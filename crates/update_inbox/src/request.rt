@@ -3,7 +3,7 @@
 ghost use Rattle.std.specs.Prelude.{◌≡◌, ◌+◌, ◌≤◌, [], ◌∷◌, IfOk, OnOk, OnErr, true};
 ghost use Rattle.cu_base.specs.Causes.{HasCauseOf};
 ghost use Rattle.update_inbox.specs.Answers.{BatchAnswers, MovesOfBatch, NotesBatch};
-ghost use Rattle.update_inbox.specs.Answers.{NotesOpening};
+ghost use Rattle.update_inbox.specs.Answers.{NotesOpened, NotesOpening};
 ghost use Rattle.update_inbox.specs.Batches.{HasStored, MayHaveStored, signal_batch};
 ghost use Rattle.stored_vars.specs.Holds.{indications_of};
 ghost use Rattle.var_log.specs.Logs.{ChangesBanks, HasBanks};
@@ -29,6 +29,7 @@ pub fn signal<W: Platform>(alloc: Global, bench: &mut W, note: &mut Note) -> Res
     ensures images { OnErr result (MayHaveStored signal_batch note.new.pending (W.state bench.old)
         (W.state bench.new)) }
     ensures opening { NotesOpening (W.state bench.old) note.new.opened }
+    ensures noted { NotesOpened result note.new.opened }
     ensures pending { NotesBatch note.new }
     ensures refused { BatchAnswers signal_batch (W.state bench.old) result }
     ensures moves { OnOk result (MovesOfBatch signal_batch (W.state bench.old)

@@ -3,7 +3,7 @@
 ghost use Rattle.std.specs.Prelude.{◌≡◌, ◌+◌, ◌≤◌, ◌<◌, IfOk, OnOk, OnErr, IfSome, true};
 ghost use Rattle.cu_base.specs.Causes.{HasCauseOf};
 ghost use Rattle.stored_vars.specs.Holds.{last_staged_of};
-ghost use Rattle.update_inbox.specs.Answers.{NotesBatch, NotesOpening};
+ghost use Rattle.update_inbox.specs.Answers.{NotesBatch, NotesOpened, NotesOpening};
 ghost use Rattle.update_inbox.specs.Batches.{HasStored, MayHaveStored};
 ghost use Rattle.update_inbox.specs.Staging.{StagingAnswers, batch_of, free_stage, next_delivery};
 ghost use Rattle.update_inbox.specs.Staging.{StagingMoves, stage_batch, staged_at};
@@ -45,6 +45,7 @@ pub fn update_capsule<W: Platform>(
     ensures images { OnErr result (MayHaveStored (stage_batch address) note.new.pending
         (W.state bench.old) (W.state bench.new)) }
     ensures opening { NotesOpening (W.state bench.old) note.new.opened }
+    ensures noted { NotesOpened result note.new.opened }
     ensures pending { NotesBatch note.new }
     ensures frame { ChangesBanks (W.state bench.old) (W.state bench.new) }
     ensures moves { StagingMoves address (W.state bench.old) (W.state bench.new) result }
