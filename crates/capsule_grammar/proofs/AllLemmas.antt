@@ -67,7 +67,7 @@ compare (x ∷ a) (y ∷ b) r s ha hb e =
     let front = front_same x y (p ++ r) (q ++ s) ha.0 hb.0 whole in
     more_on x y a b r s front.0 (compare a b r s ha.1 hb.1 front.1)
 
-some_bytes : (c : Capsule) → IsCapsule c → 0 < length (spelling c)
+pub some_bytes : (c : Capsule) → IsCapsule c → 0 < length (spelling c)
 some_bytes c is = omega (arith, spelling_length c is.guid)
 
 nothing_more : (more : List Capsule) (s : List ℕ) → AllByRecursion IsCapsule more
@@ -207,7 +207,7 @@ one_refusal bytes at to why cause r q =
 
 -- ---- one or the other
 
-abbrev Decided : List ℕ → Type 0
+abbrev pub Decided : List ℕ → Type 0
 Decided bytes = ((cs : List Capsule) × SpellsAll cs bytes)
     ⊎ ((at : ℕ) × (why : Why) × RefusedAll bytes at why)
 

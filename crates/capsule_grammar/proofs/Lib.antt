@@ -11,3 +11,4 @@ pub mod SameLemmas
 pub mod Places
 pub mod BackLemmas
 pub mod AllLemmas
+pub mod CapsulesLemmas

@@ -1,5 +1,6 @@
 pub mod Accepted
 pub mod BackToBack
+pub mod CapsulesOf
 pub mod Faults
 pub mod Fits
 pub mod Fronts

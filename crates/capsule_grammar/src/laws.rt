@@ -2,13 +2,14 @@
 //! of bytes begins with one capsule or is refused at one place for one cause, never both. The same
 //! holds of capsules back to back.
 
-ghost use Rattle.std.specs.Prelude.{◌≡◌, ℕ, List, [], ◌++◌, ◌⊎◌};
+ghost use Rattle.std.specs.Prelude.{◌≡◌, ◌≤◌, ◌⊎◌, ◌↔◌, ℕ, List, [], ◌++◌, length, None, Some};
 ghost use Rattle.cu_base.specs.Bytes.{IsBytes};
 ghost use Rattle.capsule_grammar.specs.declared.all.TheConstants.{MAX_CAPSULES};
 ghost use Rattle.capsule_grammar.specs.declared.parts.TheConstants.{OFFSET_BYTES};
 ghost use Rattle.capsule_grammar.specs.declared.refusal.Why.{Why};
 ghost use Rattle.capsule_grammar.specs.declared.value.Capsule.{Capsule};
 ghost use Rattle.capsule_grammar.specs.BackToBack.{RefusedAll, SpellsAll};
+ghost use Rattle.capsule_grammar.specs.CapsulesOf.{capsules_of};
 ghost use Rattle.capsule_grammar.specs.Spelling.{spelling};
 ghost use Rattle.capsule_grammar.specs.Fits.{IsCapsule};
 ghost use Rattle.capsule_grammar.specs.Fronts.{IsAccepted, IsRefusedOnce};
@@ -55,4 +56,16 @@ pub fn never_both()
 pub fn one_refusal()
     ensures { (bytes : List ℕ) (at other : ℕ) (why cause : Why) →
         RefusedAll bytes at why → RefusedAll bytes other cause → (at ≡ other) × (why ≡ cause) }
+{}
+
+/// The capsules of a delivery as a function: it gives these capsules exactly where the bytes are
+/// their spellings back to back, and None exactly where the bytes are refused. Whatever the numbers
+/// are, it gives at most eight.
+pub fn capsules_are_a_function()
+    ensures some { (bytes : List ℕ) (capsules : List Capsule) → IsBytes bytes →
+        (capsules_of bytes ≡ Some capsules) ↔ SpellsAll capsules bytes }
+    ensures none { (bytes : List ℕ) → IsBytes bytes →
+        (capsules_of bytes ≡ None) ↔ ((at : ℕ) × (why : Why) × RefusedAll bytes at why) }
+    ensures bound { (bytes : List ℕ) (capsules : List Capsule) →
+        capsules_of bytes ≡ Some capsules → length capsules ≤ MAX_CAPSULES }
 {}

@@ -1,17 +1,15 @@
 -- The capsule that is read from bytes has a text.
-use Rattle.std.proofs.Common.{◌≡◌, ℕ, zero, suc, ◌+◌, ◌-◌, ◌<◌, true, nat_lt}
-use Rattle.std.proofs.Common.{List, [], ◌∷◌, map, refl, inl, inr}
-use Rattle.std.specs.List.{AllByRecursion, list_all, range_with_len}
-use Rattle.std.proofs.lemmas.Bool.{and_from, cases_Bool, lt-ltb, ltb-true}
+use Rattle.std.proofs.Common.{ℕ, zero, suc, ◌+◌, ◌-◌, List, map, inl, inr}
+use Rattle.std.specs.List.{AllByRecursion, range_with_len}
+use Rattle.std.proofs.lemmas.Bool.{cases_Bool}
 use Rattle.cu_base.specs.Bytes.{IsBytes}
 use Rattle.cu_base.specs.Fields.{field, number_at}
-use Rattle.cu_base.proofs.Fields.{IsBytes-field, IsBytes-from}
+use Rattle.cu_base.proofs.Fields.{IsBytes-field}
 use Rattle.fmp_headers.specs.ImageHeader.{image_header_size, image_version}
 use Rattle.capsule_grammar.specs.Reading.{capsule_of, image_of}
 use Rattle.capsule_grammar.specs.Refusals.{body_of, bound, driver_count, image_count, is_fmp_guid}
 use Rattle.capsule_grammar.specs.Refusals.{item}
 use Rattle.fmp_headers.specs.CapsuleHeader.{header_size, image_size}
-use Rattle.dep_code.proofs.Apart.{and_parts}
 use Rattle.capsule_show.specs.ShowText.{HasBytes, ShowText}
 use Rattle.capsule_show.proofs.OneText.{has_text}
 
@@ -39,20 +37,3 @@ read_has_bytes bytes is =
 pub has_read_text : (bytes : List ℕ) → IsBytes bytes
     → (text : List ℕ) × ShowText (capsule_of bytes) text
 has_read_text bytes is = has_text (capsule_of bytes) (read_has_bytes bytes is)
-
--- numbers that pass the test of a byte are bytes, and the other way
-each_below : (bytes : List ℕ) → list_all (λ b. nat_lt b 256) bytes ≡ true
-    → AllByRecursion (λ b. b < 256) bytes
-each_below [] is = tt
-each_below (b ∷ bytes) is =
-    let both = and_parts (nat_lt b 256) (list_all (λ b. nat_lt b 256) bytes) is in
-    (ltb-true b 256 both.0, each_below bytes both.1)
-
-pub bytes_from : (bytes : List ℕ) → list_all (λ b. nat_lt b 256) bytes ≡ true → IsBytes bytes
-bytes_from bytes is = IsBytes-from bytes (each_below bytes is)
-
-pub bytes_pass : (bytes : List ℕ) → IsBytes bytes → list_all (λ b. nat_lt b 256) bytes ≡ true
-bytes_pass [] is = refl
-bytes_pass (b ∷ bytes) is =
-    and_from (nat_lt b 256) (list_all (λ b. nat_lt b 256) bytes) (lt-ltb b 256 (is 0))
-    (bytes_pass bytes (λ i. is (suc i)))

@@ -11,7 +11,5 @@ pub mod PlayLaws
 pub mod RunLaws
 pub mod ScanLaws
 pub mod ShowLaws
-pub mod ThinLaws
-pub mod ThinPlaces
 pub mod VerdictLaws
 pub mod WorkLaws

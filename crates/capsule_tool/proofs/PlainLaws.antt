@@ -17,16 +17,11 @@ use Rattle.recipe_files.specs.Recipes.{RecipeValue}
 use Rattle.recipe_files.specs.RecipeTexts.{recipe_text}
 use Rattle.recipe_files.specs.declared.faults.BadKind.{BadKind}
 use Rattle.reset_play.specs.Plays.{has_one_device, is_of_files, is_thin_on, loaded_bytes, thin_trace}
-use Rattle.reset_play.specs.Plays.{acts_of}
 use Rattle.reset_play.specs.ScriptInputs.{mention, has_name, inputs_of}
 use Rattle.reset_play.specs.ScriptText.{ScriptSaid, script_said}
-use Rattle.reset_play.specs.Thin.{thin}
-use Rattle.reference_machine.specs.Events.{Act, act_of, trace_of}
 use Rattle.reference_machine.specs.Machine.{fresh}
 use Rattle.reference_machine.specs.declared.event.Event.{Event}
-use Rattle.reference_machine.specs.declared.event.Event.TheVariants.{Time, Drop, Signal, Lay, Poke}
-use Rattle.reference_machine.specs.declared.event.Event.TheVariants.{Stage}
-use Rattle.reference_machine.specs.declared.event.Event.TheVariants.{Boot, Arm, Fail, Reset, Show}
+use Rattle.reset_play.proofs.AlikeInputs.{traces_alike}
 use Rattle.capsule_grammar.specs.Fits.{is_sized}
 use Rattle.capsule_grammar.specs.Reading.{capsule_of}
 use Rattle.capsule_grammar.specs.Rebuilt.{emptied}
@@ -57,7 +52,7 @@ use Rattle.capsule_tool.specs.declared.limits.TheConstants.{MAX_TEXT_BYTES, MAX_
 use Rattle.capsule_tool.specs.declared.verdict.Verdict.{Verdict}
 use Rattle.capsule_tool.specs.declared.verdict.Verdict.TheVariants.{Whole as WholeCapsule, Refused}
 use Rattle.capsule_tool.specs.declared.verdict.Verdict.TheVariants.{Trailing}
-use Rattle.capsule_tool.proofs.NameLaws.{or_false, or_true_right, same_name, eq_itself, once_has}
+use Rattle.capsule_tool.proofs.NameLaws.{or_false, same_name, once_has}
 use Rattle.capsule_tool.proofs.PlayLaws.{input_goes, script_goes}
 use Rattle.capsule_tool.proofs.RunLaws.{within, Ends, input_ends, load_ends, made_ends}
 
@@ -90,38 +85,15 @@ pairs_hold named (n ∷ names) name has =
     pair_at named (pairs_of named names) n name (bytes_eq n name) refl
     (λ differ. pairs_hold named names name (rw differ at has))
 
--- events of files act alike where the inputs that they name have the same bytes
-acts_alike : (f g : List ℕ → List ℕ) (events : List Event) → list_all is_of_files events ≡ true
-    → ((name : List ℕ) → has_name name (filter_map mention events) ≡ true → f name ≡ g name)
-    → map (act_of f) events ≡ map (act_of g) events
-acts_alike f g [] files same = refl
-acts_alike f g (Time moment ∷ events) files same = absurd (cc_false files)
-acts_alike f g (Drop file input ∷ events) files same =
-    rw (same input (rw (eq_itself input) refl))
-    (ap (λ (acts : List Act). act_of g (Drop file input) ∷ acts)
-    (acts_alike f g events files (λ name has. same name
-    (or_true_right (bytes_eq input name) (has_name name (filter_map mention events)) has))))
-acts_alike f g (Signal ∷ events) files same =
-    ap (λ (acts : List Act). act_of g Signal ∷ acts) (acts_alike f g events files same)
-acts_alike f g (Lay at input ∷ events) files same = absurd (cc_false files)
-acts_alike f g (Poke at bytes ∷ events) files same = absurd (cc_false files)
-acts_alike f g (Stage at ∷ events) files same = absurd (cc_false files)
-acts_alike f g (Boot ∷ events) files same =
-    ap (λ (acts : List Act). act_of g Boot ∷ acts) (acts_alike f g events files same)
-acts_alike f g (Arm after choice ∷ events) files same = absurd (cc_false files)
-acts_alike f g (Fail nth ∷ events) files same = absurd (cc_false files)
-acts_alike f g (Reset cold ∷ events) files same = absurd (cc_false files)
-acts_alike f g (Show ∷ events) files same = absurd (cc_false files)
-
 -- the play over the inputs by their names is that over the named bytes
 trace_alike : (board : BoardValue) (named : Named) (events : List Event)
     → list_all is_of_files events ≡ true
     → thin_trace board (pairs_of named (inputs_of events)) events ≡ thin_trace board named events
 trace_alike board named events files =
-    ap (trace_of thin (fresh board))
-    (acts_alike (loaded_bytes (pairs_of named (inputs_of events))) (loaded_bytes named) events files
+    traces_alike (loaded_bytes (pairs_of named (inputs_of events))) (loaded_bytes named)
+    (fresh board) events files
     (λ name has. pairs_hold named (inputs_of events) name
-    (once_has name (filter_map mention events) has)))
+    (once_has name (filter_map mention events) has))
 
 -- the inputs of a play, one after the other
 not_past : (most n : ℕ) → n ≤ most → nat_lt most n ≡ false

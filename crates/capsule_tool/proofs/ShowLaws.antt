@@ -4,8 +4,10 @@ use Rattle.cu_base.specs.Bytes.{IsBytes}
 use Rattle.capsule_grammar.specs.Reading.{capsule_of}
 use Rattle.capsule_show.specs.ShowText.{ShowText}
 use Rattle.capsule_show.proofs.OneText.{one_text}
-use Rattle.capsule_show.proofs.ReadBytes.{bytes_from, bytes_pass, has_read_text}
-use Rattle.capsule_tool.specs.Shown.{are_bytes, shown_text, text_where}
+use Rattle.capsule_show.proofs.ReadBytes.{has_read_text}
+use Rattle.dep_code.proofs.ByteTests.{bytes_from, bytes_pass}
+use Rattle.image_parts.specs.SectionAt.{are_bytes}
+use Rattle.capsule_tool.specs.Shown.{shown_text, text_where}
 
 none_true : false ≡ true → ⊥
 none_true is = cc

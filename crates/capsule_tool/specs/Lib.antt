@@ -16,7 +16,6 @@ pub mod Scans
 pub mod Shown
 pub mod Statuses
 pub mod Steps
-pub mod ThinCapsules
 pub mod Told
 pub mod Verdicts
 pub mod Works

@@ -1,13 +1,10 @@
 -- The text that `show` writes of a file. It is named by what it is, the text of the capsule that is
 -- read from the bytes: laws say that there is one and no other, and `capsule_show` writes it.
-use Rattle.std.specs.Prelude.{◌≡◌, ℕ, Bool, true, false, List, [], nat_lt}
+use Rattle.std.specs.Prelude.{◌≡◌, ℕ, Bool, true, false, List, []}
 use Rattle.std.proofs.Common.{refl}
-use Rattle.std.specs.List.{list_all}
-use Rattle.capsule_show.proofs.ReadBytes.{bytes_from, has_read_text}
-
--- each number is a byte, as those of every file are
-abbrev pub are_bytes : List ℕ → Bool
-are_bytes bytes = list_all (λ b. nat_lt b 256) bytes
+use Rattle.capsule_show.proofs.ReadBytes.{has_read_text}
+use Rattle.dep_code.proofs.ByteTests.{bytes_from}
+use Rattle.image_parts.specs.SectionAt.{are_bytes}
 
 -- the one text of the capsule that is read from bytes; numbers that are no bytes have none
 unfoldable pub text_where : (bytes : List ℕ) (are : Bool) → are_bytes bytes ≡ are → List ℕ

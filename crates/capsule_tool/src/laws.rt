@@ -1,20 +1,14 @@
-//! Laws of the program's definitions: its limits are those of the specification, and the thin
-//! deliveries of plays are those of the grammar of capsule files.
+//! Laws of the program's definitions: its limits are those of the specification, and what it tells
+//! is what the definitions of the crates below say of the named bytes.
 
-ghost use Rattle.std.specs.Prelude.{◌≡◌, ◌≤◌, ℕ, true, List, [], ◌∷◌, length, Some};
-ghost use Rattle.cu_base.specs.declared.limits.TheConstants.{MAX_CAPSULE_BYTES};
+ghost use Rattle.std.specs.Prelude.{◌≡◌, ℕ, List};
 ghost use Rattle.cu_base.specs.Bytes.{IsBytes};
-ghost use Rattle.capsule_grammar.specs.declared.value.Capsule.{Capsule};
 ghost use Rattle.capsule_grammar.specs.Reading.{capsule_of};
-ghost use Rattle.capsule_grammar.specs.Spelling.{spelling};
-ghost use Rattle.capsule_grammar.specs.Fits.{IsCapsule};
 ghost use Rattle.capsule_show.specs.ShowText.{ShowText};
 ghost use Rattle.bench_model.specs.Boards.{BoardValue};
 ghost use Rattle.cu_io.specs.Named.{Named};
 ghost use Rattle.reference_machine.specs.declared.event.Event.{Event};
 ghost use Rattle.reset_play.specs.Plays.{thin_trace};
-ghost use Rattle.reset_play.specs.Thin.{is_thin, thin_capsules};
-ghost use Rattle.capsule_tool.specs.ThinCapsules.{IsThinCapsule, machine_capsule};
 ghost use Rattle.capsule_tool.specs.Plain.{IsPlay, TellsVerdict, TellsFault};
 ghost use Rattle.capsule_tool.specs.Played.{played_as};
 ghost use Rattle.capsule_tool.specs.Shown.{shown_text};
@@ -53,15 +47,4 @@ pub fn told_faults_are_those_of_texts()
     ensures { (words : List (List ℕ)) → (named : Named)
         → code_of (told words named).answer.status ≡ 3
         → TellsFault words named (told words named).answer }
-{}
-
-/// The thin deliveries are the spellings of the thin capsules, as far as a capsule's limit reaches,
-/// and the capsule that the reference machine sees in one is the one that it spells.
-pub fn thin_deliveries_are_capsules()
-    ensures read { (bytes : List ℕ) → IsBytes bytes → length bytes ≤ MAX_CAPSULE_BYTES
-        → is_thin bytes ≡ true
-        → (c : Capsule) × IsCapsule c × IsThinCapsule c × (spelling c ≡ bytes) }
-    ensures spelled { (c : Capsule) → IsCapsule c → IsThinCapsule c → is_thin (spelling c) ≡ true }
-    ensures item { (c : Capsule) → IsCapsule c → IsThinCapsule c
-        → thin_capsules (spelling c) ≡ Some (machine_capsule c ∷ []) }
 {}

@@ -30,9 +30,8 @@ mod verdict;
 use cu_base::{Names, NoMemory, Text};
 use cu_io::{FileInputs, StdSink};
 pub use laws::{
-    limits_are_as_specified, shown_text_is_the_text, thin_deliveries_are_capsules,
-    told_faults_are_those_of_texts, told_plays_are_those_of_the_machine,
-    told_refusals_are_verdicts,
+    limits_are_as_specified, shown_text_is_the_text, told_faults_are_those_of_texts,
+    told_plays_are_those_of_the_machine, told_refusals_are_verdicts,
 };
 use mem_bench::MemBench;
 pub use program::{Outcome, run};

@@ -1,4 +1,5 @@
 pub mod Apart
+pub mod ByteTests
 pub mod Bytes
 pub mod Decided
 pub mod Entries

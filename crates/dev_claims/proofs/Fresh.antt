@@ -13,7 +13,7 @@ use Rattle.reference_machine.specs.Spent.{Image, factory_floor, factory_image}
 use Rattle.var_log.specs.Banks.{empty_store}
 use Rattle.var_log.specs.Changes.{no_variables}
 use Rattle.stored_vars.specs.Holds.{device_of}
-use Rattle.dev_claims.specs.Stands.{Holds, Stores, result_on}
+use Rattle.stored_vars.specs.Stands.{Holds, Stores, result_on}
 
 -- the version of a factory image is that of its device
 factory_version : (o : Option DeviceValue)

@@ -1,3 +1,10 @@
+pub mod CloseEdits
+pub mod CloseLaws
+pub mod DropLaws
+pub mod Entered
 pub mod Found
 pub mod Fresh
+pub mod OneMore
 pub mod Pruned
+pub mod UnitLaws
+pub mod Unstaged

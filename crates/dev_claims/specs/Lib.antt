@@ -1,3 +1,5 @@
 pub mod Batches
+pub mod Units
+pub mod Next
+pub mod Steps
 pub mod Prunes
-pub mod Stands

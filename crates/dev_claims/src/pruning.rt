@@ -1,8 +1,9 @@
 //! The batch that drops the progress of files that are gone.
 
 ghost use Rattle.std.specs.Prelude.{◌≡◌, ◌∷◌, [], IfOk, IsTrue};
-ghost use Rattle.dev_claims.specs.Batches.{delete_of, dropping, entries_of, has_serial};
-ghost use Rattle.dev_claims.specs.Batches.{progress_change, prune_changes, set_of};
+ghost use Rattle.dev_claims.specs.Batches.{dropping, entries_of, has_serial, progress_change};
+ghost use Rattle.dev_claims.specs.Batches.{prune_changes};
+ghost use Rattle.stored_vars.specs.Edits.{delete_of, set_of};
 ghost use Rattle.stored_vars.specs.Holds.{progress_of};
 ghost use Rattle.stored_vars.specs.Variables.{is_variable};
 ghost use Rattle.var_store.specs.Stores.{variables_of};

@@ -38,7 +38,7 @@ taken true bytes is = there_or_refused bytes (dep_proofs.section_or_refused_lemm
 taken false bytes is = inl (0, refl)
 
 -- what an image is
-abbrev Decided : List ℕ → ℕ → Type 0
+abbrev pub Decided : List ℕ → ℕ → Type 0
 Decided image support = ((p : PartsValue) × IsPartsOf image support p)
     ⊎ ((at : ℕ) × (why : PartWhy) × IsRefused image support at why)
 

@@ -3,9 +3,11 @@ pub mod Decided
 pub mod Found
 pub mod Kept
 pub mod Lists
+pub mod PartsLemmas
 pub mod Places
 pub mod Read
 pub mod Scanned
+pub mod SectionLemmas
 pub mod Spelled
 pub mod Texts
 pub mod Walks

@@ -2,10 +2,12 @@ pub mod Admission
 pub mod Authentication
 pub mod Cuts
 pub mod Parts
+pub mod PartsOf
 pub mod PayloadHeader
 pub mod Refusals
 pub mod Scan
 pub mod Section
+pub mod SectionAt
 pub mod Spans
 pub mod Support
 pub mod Values

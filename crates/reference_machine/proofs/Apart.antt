@@ -7,7 +7,8 @@ use Rattle.reference_machine.specs.declared.snapshot.StagedPair.{StagedPair}
 use Rattle.reference_machine.specs.declared.unit.End.{End}
 use Rattle.reference_machine.specs.Boots.{BootTask, BootState, Course, after, after_unit}
 use Rattle.reference_machine.specs.Boots.{after_steps, boot_at, boot_start, course_of, settled_with}
-use Rattle.reference_machine.specs.Boots.BootTask.{Settles, Unstages, Does, Prunes, Removes, Clears}
+use Rattle.reference_machine.specs.Boots.BootTask.{Commits, Removes}
+use Rattle.reference_machine.specs.Boots.BootBatch.{Settles, Unstages, Does, Prunes, Clears}
 use Rattle.reference_machine.specs.Boots.Course.{Claim, Close}
 use Rattle.reference_machine.specs.Deliveries.{BootUnit}
 use Rattle.reference_machine.specs.Events.{with_file}
@@ -136,9 +137,9 @@ unit_apart f b u rest (Close end) a = record {
 pub after_apart : (f : Formats) (b : BootState) (left : List BootTask) → AreApart b.machine
     → AreApart (after f b left).machine
 after_apart f b [] a = a
-after_apart f b (Settles kind end ∷ rest) a =
+after_apart f b (Commits (Settles kind end) ∷ rest) a =
     settled_apart b.machine end (find is_open b.machine.list) a
-after_apart f b (Unstages pair ∷ rest) a = record {
+after_apart f b (Commits (Unstages pair) ∷ rest) a = record {
   names = a.names;
   files = a.files;
   last_file = a.last_file;
@@ -148,8 +149,9 @@ after_apart f b (Unstages pair ∷ rest) a = record {
       all_kept (λ (p : StagedPair). p.serial ≤ b.machine.last_staged)
       (λ q. not (q.serial == pair.serial)) b.machine.staged a.last_staged;
 }
-after_apart f b (Does u ∷ rest) a = unit_apart f b u rest (course_of f b.machine u u.kind) a
-after_apart f b (Prunes ∷ rest) a = record {
+after_apart f b (Commits (Does u) ∷ rest) a =
+    unit_apart f b u rest (course_of f b.machine u u.kind) a
+after_apart f b (Commits Prunes ∷ rest) a = record {
   names = a.names;
   files = a.files;
   last_file = a.last_file;
@@ -165,7 +167,7 @@ after_apart f b (Removes serial ∷ rest) a = record {
   staged = a.staged;
   last_staged = a.last_staged;
 }
-after_apart f b (Clears ∷ rest) a = record {
+after_apart f b (Commits Clears ∷ rest) a = record {
   names = a.names;
   files = a.files;
   last_file = a.last_file;

@@ -15,17 +15,18 @@ use Rattle.reference_machine.specs.Boots.{BootTask, BootState, Course, after, af
 use Rattle.reference_machine.specs.Boots.{after_steps, boot_start, boot_at, boot_tasks, tasks_with}
 use Rattle.reference_machine.specs.Boots.{is_file, progress_with, course_of, element_of, settled}
 use Rattle.reference_machine.specs.Boots.{settled_with, closed_with, staged_tasks, folder_tasks}
-use Rattle.reference_machine.specs.Boots.BootTask.{Settles, Unstages, Does, Prunes, Removes, Clears}
+use Rattle.reference_machine.specs.Boots.BootTask.{Commits, Removes}
+use Rattle.reference_machine.specs.Boots.BootBatch.{Settles, Unstages, Does, Prunes, Clears}
 use Rattle.reference_machine.specs.Boots.Course.{Claim, Close}
 use Rattle.reference_machine.specs.Deliveries.{BootUnit}
-use Rattle.reference_machine.specs.Events.{bytes_beside, staging_refusal, coalesced_refusal}
+use Rattle.reference_machine.specs.Events.{staging_refusal, coalesced_refusal}
 use Rattle.reference_machine.specs.Formats.{Formats}
 use Rattle.reference_machine.specs.Laws.{IsWithinLimits, IsGiven, SerialsAreGiven}
 use Rattle.reference_machine.specs.Laws.{progress_with_open}
 use Rattle.reference_machine.specs.Stops.{IsHeldEnd}
 use Rattle.bench_model.specs.Files.{File}
 use Rattle.reference_machine.specs.Machine.{Machine}
-use Rattle.bench_model.specs.Files.{is_same_name}
+use Rattle.bench_model.specs.Files.{bytes_in, is_same_name, others_than}
 use Rattle.reference_machine.specs.Spent.{Element, is_of, is_open}
 use Rattle.reference_machine.specs.Spent.Standing.{Open, Closed}
 use Rattle.reference_machine.specs.TraceValues.{AnswerValue}
@@ -60,13 +61,14 @@ pub record Bounded (serials : List ℕ) (m : Machine) (left : List BootTask) : T
 
 unit_bounded : (f : Formats) (serials : List ℕ) (b : BootState) (u : BootUnit)
     (rest : List BootTask) (c : Course) → NoneOpen b.machine.list
-    → Filed serials b.machine (Does u ∷ rest) → Bounded serials b.machine (Does u ∷ rest)
+    → Filed serials b.machine (Commits (Does u) ∷ rest)
+    → Bounded serials b.machine (Commits (Does u) ∷ rest)
     → Bounded serials (after_unit f b u rest c).machine (after_unit f b u rest c).left
 unit_bounded f serials b u rest Claim none r k =
     let m : Machine = b.machine in
     let e : Element = element_of f u Open in
-    let before : KeptIs serials m.last_file m.in_progress (Does u ∷ rest) =
-    subst (λ ns. KeptIs serials m.last_file ns (Does u ∷ rest))
+    let before : KeptIs serials m.last_file m.in_progress (Commits (Does u) ∷ rest) =
+    subst (λ ns. KeptIs serials m.last_file ns (Commits (Does u) ∷ rest))
     (kept_resting m none) k.in_progress in
     let more : KeptIs serials m.last_file (progress_with m.in_progress u.key) rest =
     kept_unit serials m.last_staged m.last_file m.in_progress u rest k.few r.below r.known.0 before
@@ -87,8 +89,8 @@ unit_bounded f serials b u rest Claim none r k =
 unit_bounded f serials b u rest (Close end) none r k =
     let m : Machine = b.machine in
     let e : Element = element_of f u (Closed end m.now) in
-    let before : KeptIs serials m.last_file m.in_progress (Does u ∷ rest) =
-    subst (λ ns. KeptIs serials m.last_file ns (Does u ∷ rest))
+    let before : KeptIs serials m.last_file m.in_progress (Commits (Does u) ∷ rest) =
+    subst (λ ns. KeptIs serials m.last_file ns (Commits (Does u) ∷ rest))
     (kept_resting m none) k.in_progress in
     let more : KeptIs serials m.last_file (progress_with m.in_progress u.key) rest =
     kept_unit serials m.last_staged m.last_file m.in_progress u rest k.few r.below r.known.0 before
@@ -152,8 +154,8 @@ after_bounded : (f : Formats) (serials : List ℕ) (b : BootState) (left : List 
     → Bounded serials b.machine left
     → Bounded serials (after f b left).machine (after f b left).left
 after_bounded f serials b [] e g r k = subst (Bounded serials b.machine) (sym e) k
-after_bounded f serials b (Settles kind end ∷ rest) e (inl g) r k = absurd g.1
-after_bounded f serials b (Settles kind end ∷ rest) e (inr g) r k =
+after_bounded f serials b (Commits (Settles kind end) ∷ rest) e (inl g) r k = absurd g.1
+after_bounded f serials b (Commits (Settles kind end) ∷ rest) e (inr g) r k =
     settle_bounded serials b.machine end rest g.1.0 g.0
     (record {
       there = k.there;
@@ -162,9 +164,9 @@ after_bounded f serials b (Settles kind end ∷ rest) e (inr g) r k =
       staged = k.staged;
       in_progress =
           kept_left serials b.machine.last_file (kept_now b.machine)
-          (Settles kind end ∷ rest) rest k.in_progress k.in_progress.ready;
+          (Commits (Settles kind end) ∷ rest) rest k.in_progress k.in_progress.ready;
     })
-after_bounded f serials b (Unstages p ∷ rest) e g r k = record {
+after_bounded f serials b (Commits (Unstages p) ∷ rest) e g r k = record {
   there = k.there;
   few = k.few;
   files = k.files;
@@ -173,19 +175,19 @@ after_bounded f serials b (Unstages p ∷ rest) e g r k = record {
       (filter_most (λ (q : StagedPair). not (q.serial == p.serial)) b.machine.staged) k.staged;
   in_progress =
       kept_left serials b.machine.last_file (kept_now b.machine)
-      (Unstages p ∷ rest) rest k.in_progress k.in_progress.ready;
+      (Commits (Unstages p) ∷ rest) rest k.in_progress k.in_progress.ready;
 }
-after_bounded f serials b (Does u ∷ rest) e (inl g) r k =
+after_bounded f serials b (Commits (Does u) ∷ rest) e (inl g) r k =
     unit_bounded f serials b u rest (course_of f b.machine u u.kind) g.0.none r k
-after_bounded f serials b (Does u ∷ rest) e (inr g) r k = absurd g.1
-after_bounded f serials b (Prunes ∷ rest) e (inl g) r k =
+after_bounded f serials b (Commits (Does u) ∷ rest) e (inr g) r k = absurd g.1
+after_bounded f serials b (Commits Prunes ∷ rest) e (inl g) r k =
     let m : Machine = b.machine in
-    let before : KeptIs serials m.last_file m.in_progress (Prunes ∷ rest) =
-    subst (λ ns. KeptIs serials m.last_file ns (Prunes ∷ rest))
+    let before : KeptIs serials m.last_file m.in_progress (Commits Prunes ∷ rest) =
+    subst (λ ns. KeptIs serials m.last_file ns (Commits Prunes ∷ rest))
     (kept_resting m g.0.none) k.in_progress in
     let pruned : KeptIs serials m.last_file (filter (is_file m.files) m.in_progress) rest =
     kept_pruned serials m.last_file m.files m.in_progress
-    (Prunes ∷ rest) rest k.few k.there before in
+    (Commits Prunes ∷ rest) rest k.few k.there before in
     let is : progress_with_open (filter (is_file m.files) m.in_progress) (find is_open m.list)
     ≡ filter (is_file m.files) m.in_progress =
     ap (progress_with_open (filter (is_file m.files) m.in_progress))
@@ -197,7 +199,7 @@ after_bounded f serials b (Prunes ∷ rest) e (inl g) r k =
       staged = k.staged;
       in_progress = subst (λ ns. KeptIs serials m.last_file ns rest) (sym is) pruned;
     }
-after_bounded f serials b (Prunes ∷ rest) e (inr g) r k = absurd g.1
+after_bounded f serials b (Commits Prunes ∷ rest) e (inr g) r k = absurd g.1
 after_bounded f serials b (Removes serial ∷ rest) e g r k = record {
   there = all_kept (λ (x : File). has serials x.serial ≡ true)
       (λ x. not (x.serial == serial)) b.machine.files k.there;
@@ -210,7 +212,7 @@ after_bounded f serials b (Removes serial ∷ rest) e g r k = record {
       kept_left serials b.machine.last_file (kept_now b.machine)
       (Removes serial ∷ rest) rest k.in_progress k.in_progress.ready;
 }
-after_bounded f serials b (Clears ∷ rest) e (inl g) r k =
+after_bounded f serials b (Commits Clears ∷ rest) e (inl g) r k =
     let m : Machine = b.machine in
     let is : progress_with_open [] (find is_open m.list) ≡ [] =
     ap (progress_with_open []) (find_none m.list g.0.none) in
@@ -223,7 +225,7 @@ after_bounded f serials b (Clears ∷ rest) e (inl g) r k =
       staged = k.staged;
       in_progress = subst (λ ns. KeptIs serials m.last_file ns rest) (sym is) cleared;
     }
-after_bounded f serials b (Clears ∷ rest) e (inr g) r k = absurd g.1
+after_bounded f serials b (Commits Clears ∷ rest) e (inr g) r k = absurd g.1
 
 steps_bounded : (f : Formats) (serials : List ℕ) (n : ℕ) (b : BootState) → Going b.machine b.left
     → Filed serials b.machine b.left → Bounded serials b.machine b.left
@@ -389,8 +391,8 @@ limited_keeps f = record {
   puts = λ m file bytes e o. record {
     filed = (files_keeps f).puts m file bytes e o.filed;
     files = put_few m.files file (record { name = file; serial = m.last_file + 1; bytes = bytes })
-        (nat_lt MAX_FOLDER_BYTES (bytes_beside m.files file + length bytes)
-        || nat_le (2 ^ 64 - 1) m.last_file) e o.files;
+        (nat_lt MAX_FOLDER_BYTES (bytes_in (others_than file m.files) + length bytes))
+        (or_false _ (nat_le (2 ^ 64 - 1) m.last_file) e) o.files;
     staged = o.staged;
     in_progress = kept_later m.last_file (kept_now m) o.in_progress;
   };

@@ -5,7 +5,8 @@ use Rattle.reference_machine.specs.declared.unit.End.{End}
 use Rattle.reference_machine.specs.Boots.{BootTask, BootState, Course, after, after_unit, next}
 use Rattle.reference_machine.specs.Boots.{after_steps, boot_start, boot_of, boot_tasks, course_of}
 use Rattle.reference_machine.specs.Boots.{settled_with}
-use Rattle.reference_machine.specs.Boots.BootTask.{Settles, Unstages, Does, Prunes, Removes, Clears}
+use Rattle.reference_machine.specs.Boots.BootTask.{Commits, Removes}
+use Rattle.reference_machine.specs.Boots.BootBatch.{Settles, Unstages, Does, Prunes, Clears}
 use Rattle.reference_machine.specs.Boots.Course.{Claim, Close}
 use Rattle.reference_machine.specs.Deliveries.{BootUnit}
 use Rattle.reference_machine.specs.Formats.{Formats}
@@ -18,26 +19,26 @@ use Rattle.reference_machine.proofs.Lists.{Rests}
 -- the most steps that work takes
 abbrev pub weight : List BootTask → ℕ
 weight [] = 0
-weight (Settles kind end ∷ rest) = weight rest + 1
-weight (Unstages pair ∷ rest) = weight rest + 1
-weight (Does unit ∷ rest) = weight rest + 2
-weight (Prunes ∷ rest) = weight rest + 1
+weight (Commits (Settles kind end) ∷ rest) = weight rest + 1
+weight (Commits (Unstages pair) ∷ rest) = weight rest + 1
+weight (Commits (Does unit) ∷ rest) = weight rest + 2
+weight (Commits Prunes ∷ rest) = weight rest + 1
 weight (Removes serial ∷ rest) = weight rest + 1
-weight (Clears ∷ rest) = weight rest + 1
+weight (Commits Clears ∷ rest) = weight rest + 1
 
 pub weight_most : (left : List BootTask) → weight left ≤ 2 * length left
 weight_most [] = omega arith
-weight_most (Settles kind end ∷ rest) = let h : weight rest ≤ 2 * length rest =
+weight_most (Commits (Settles kind end) ∷ rest) = let h : weight rest ≤ 2 * length rest =
     weight_most rest in omega arith
-weight_most (Unstages pair ∷ rest) = let h : weight rest ≤ 2 * length rest =
+weight_most (Commits (Unstages pair) ∷ rest) = let h : weight rest ≤ 2 * length rest =
     weight_most rest in omega arith
-weight_most (Does unit ∷ rest) = let h : weight rest ≤ 2 * length rest =
+weight_most (Commits (Does unit) ∷ rest) = let h : weight rest ≤ 2 * length rest =
     weight_most rest in omega arith
-weight_most (Prunes ∷ rest) = let h : weight rest ≤ 2 * length rest =
+weight_most (Commits Prunes ∷ rest) = let h : weight rest ≤ 2 * length rest =
     weight_most rest in omega arith
 weight_most (Removes serial ∷ rest) = let h : weight rest ≤ 2 * length rest =
     weight_most rest in omega arith
-weight_most (Clears ∷ rest) = let h : weight rest ≤ 2 * length rest =
+weight_most (Commits Clears ∷ rest) = let h : weight rest ≤ 2 * length rest =
     weight_most rest in omega arith
 
 unit_lighter : (f : Formats) (b : BootState) (u : BootUnit) (rest : List BootTask) (c : Course)
@@ -48,14 +49,14 @@ unit_lighter f b u rest (Close end) = omega arith
 after_lighter : (f : Formats) (b : BootState) (left : List BootTask) → b.left ≡ left
     → weight (after f b left).left ≤ weight left - 1
 after_lighter f b [] e = let h : weight b.left ≡ 0 = ap weight e in omega arith
-after_lighter f b (Settles kind end ∷ rest) e = omega arith
-after_lighter f b (Unstages pair ∷ rest) e = omega arith
-after_lighter f b (Does u ∷ rest) e =
+after_lighter f b (Commits (Settles kind end) ∷ rest) e = omega arith
+after_lighter f b (Commits (Unstages pair) ∷ rest) e = omega arith
+after_lighter f b (Commits (Does u) ∷ rest) e =
     let h : weight (after_unit f b u rest (course_of f b.machine u u.kind)).left ≤ weight rest + 1 =
     unit_lighter f b u rest (course_of f b.machine u u.kind) in omega arith
-after_lighter f b (Prunes ∷ rest) e = omega arith
+after_lighter f b (Commits Prunes ∷ rest) e = omega arith
 after_lighter f b (Removes serial ∷ rest) e = omega arith
-after_lighter f b (Clears ∷ rest) e = omega arith
+after_lighter f b (Commits Clears ∷ rest) e = omega arith
 
 steps_lighter : (f : Formats) (n : ℕ) (b : BootState)
     → weight (after_steps f n b).left ≤ weight b.left - n
@@ -68,12 +69,12 @@ steps_lighter f (suc n) b =
 
 none_left : (left : List BootTask) → weight left ≤ 0 → left ≡ []
 none_left [] h = refl
-none_left (Settles kind end ∷ rest) h = absurd (omega arith)
-none_left (Unstages pair ∷ rest) h = absurd (omega arith)
-none_left (Does unit ∷ rest) h = absurd (omega arith)
-none_left (Prunes ∷ rest) h = absurd (omega arith)
+none_left (Commits (Settles kind end) ∷ rest) h = absurd (omega arith)
+none_left (Commits (Unstages pair) ∷ rest) h = absurd (omega arith)
+none_left (Commits (Does unit) ∷ rest) h = absurd (omega arith)
+none_left (Commits Prunes ∷ rest) h = absurd (omega arith)
 none_left (Removes serial ∷ rest) h = absurd (omega arith)
-none_left (Clears ∷ rest) h = absurd (omega arith)
+none_left (Commits Clears ∷ rest) h = absurd (omega arith)
 
 -- nothing is left of a whole boot
 pub boot_ends : (f : Formats) (m : Machine) (h : End) → (boot_of f m h).left ≡ []
@@ -109,13 +110,13 @@ unit_failed f b u rest (Close end) = refl
 after_failed : (f : Formats) (b : BootState) (left : List BootTask)
     → (after f b left).machine.failed ≡ b.machine.failed
 after_failed f b [] = refl
-after_failed f b (Settles kind end ∷ rest) =
+after_failed f b (Commits (Settles kind end) ∷ rest) =
     settled_failed b.machine end (find is_open b.machine.list)
-after_failed f b (Unstages pair ∷ rest) = refl
-after_failed f b (Does u ∷ rest) = unit_failed f b u rest (course_of f b.machine u u.kind)
-after_failed f b (Prunes ∷ rest) = refl
+after_failed f b (Commits (Unstages pair) ∷ rest) = refl
+after_failed f b (Commits (Does u) ∷ rest) = unit_failed f b u rest (course_of f b.machine u u.kind)
+after_failed f b (Commits Prunes ∷ rest) = refl
 after_failed f b (Removes serial ∷ rest) = refl
-after_failed f b (Clears ∷ rest) = refl
+after_failed f b (Commits Clears ∷ rest) = refl
 
 pub steps_failed : (f : Formats) (n : ℕ) (b : BootState)
     → (after_steps f n b).machine.failed ≡ b.machine.failed

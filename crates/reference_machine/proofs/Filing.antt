@@ -1,13 +1,14 @@
 -- Serials in kept: what is stored of the progress of files, and which units are left to be done.
 use Rattle.std.proofs.Common.{◌≡◌, ℕ, ◌+◌, ◌<◌, ◌≤◌, ◌⊎◌, Bool, true, false, cond, not, ◌&&◌, ◌||◌}
-use Rattle.std.proofs.Common.{◌==◌, List, [], ◌∷◌, ◌++◌, length, map, filter, refl, arith, sym, ap}
+use Rattle.std.proofs.Common.{◌==◌, List, [], ◌∷◌, ◌++◌, map, filter, refl, arith, sym, ap}
 use Rattle.std.proofs.Common.{◌∙◌, subst}
 use Rattle.std.specs.List.{AllByRecursion, list_any}
 use Rattle.std.proofs.lemmas.Bool.Decides.{nat_tests}
 use Rattle.cu_base.proofs.Lists.{filter_more}
 use Rattle.reference_machine.specs.declared.unit.UnitKey.{UnitKey}
-use Rattle.reference_machine.specs.Boots.{BootTask, progress_with}
-use Rattle.reference_machine.specs.Boots.BootTask.{Settles, Unstages, Does, Prunes, Removes, Clears}
+use Rattle.reference_machine.specs.Boots.{BootTask, progress_with, unit_tasks}
+use Rattle.reference_machine.specs.Boots.BootTask.{Commits, Removes}
+use Rattle.reference_machine.specs.Boots.BootBatch.{Settles, Unstages, Does, Prunes, Clears}
 use Rattle.reference_machine.specs.Deliveries.{BootUnit}
 use Rattle.bench_model.specs.Files.{File}
 use Rattle.reference_machine.specs.Spent.{Element, is_of, is_open, is_closed, spent}
@@ -171,25 +172,29 @@ IsKnown last serials key =
 -- and so is each that is left
 abbrev pub Known : ℕ → List ℕ → List BootTask → Type 0
 Known last serials [] = Unit {0}
-Known last serials (Settles kind end ∷ rest) = Known last serials rest
-Known last serials (Unstages pair ∷ rest) = Known last serials rest
-Known last serials (Does u ∷ rest) = IsKnown last serials u.key × Known last serials rest
-Known last serials (Prunes ∷ rest) = Known last serials rest
+Known last serials (Commits (Settles kind end) ∷ rest) = Known last serials rest
+Known last serials (Commits (Unstages pair) ∷ rest) = Known last serials rest
+Known last serials (Commits (Does u) ∷ rest) = IsKnown last serials u.key × Known last serials rest
+Known last serials (Commits Prunes ∷ rest) = Known last serials rest
 Known last serials (Removes serial ∷ rest) = Known last serials rest
-Known last serials (Clears ∷ rest) = Known last serials rest
+Known last serials (Commits Clears ∷ rest) = Known last serials rest
 
 pub known_append : (last : ℕ) (serials : List ℕ) (xs ys : List BootTask) → Known last serials xs
     → Known last serials ys → Known last serials (xs ++ ys)
 known_append last serials [] ys a b = b
-known_append last serials (Settles kind end ∷ xs) ys a b = known_append last serials xs ys a b
-known_append last serials (Unstages pair ∷ xs) ys a b = known_append last serials xs ys a b
-known_append last serials (Does unit ∷ xs) ys a b = (a.0, known_append last serials xs ys a.1 b)
-known_append last serials (Prunes ∷ xs) ys a b = known_append last serials xs ys a b
+known_append last serials (Commits (Settles kind end) ∷ xs) ys a b =
+    known_append last serials xs ys a b
+known_append last serials (Commits (Unstages pair) ∷ xs) ys a b =
+    known_append last serials xs ys a b
+known_append last serials (Commits (Does unit) ∷ xs) ys a b =
+    (a.0, known_append last serials xs ys a.1 b)
+known_append last serials (Commits Prunes ∷ xs) ys a b = known_append last serials xs ys a b
 known_append last serials (Removes serial ∷ xs) ys a b = known_append last serials xs ys a b
-known_append last serials (Clears ∷ xs) ys a b = known_append last serials xs ys a b
+known_append last serials (Commits Clears ∷ xs) ys a b = known_append last serials xs ys a b
 
 pub known_units : (last : ℕ) (serials : List ℕ) (r s n : ℕ) (us : List BootUnit) → Numbered r s n us
-    → ((r ≡ 0) × (s ≤ last)) ⊎ ((r ≡ 1) × (has serials s ≡ true)) → Known last serials (map Does us)
+    → ((r ≡ 0) × (s ≤ last)) ⊎ ((r ≡ 1) × (has serials s ≡ true))
+    → Known last serials (unit_tasks us)
 known_units last serials r s n [] h w = tt
 known_units last serials r s n (u ∷ us) h w =
     let route : ((u.key.ticket.route ≡ 0) × (s ≤ last))
@@ -204,14 +209,14 @@ known_units last serials r s n (u ∷ us) h w =
 -- no file is left where the request for the files is cleared
 abbrev pub Empties : List File → List BootTask → Type 0
 Empties files [] = Unit {0}
-Empties files (Settles kind end ∷ rest) = Empties files rest
-Empties files (Unstages pair ∷ rest) = Empties files rest
-Empties files (Does u ∷ rest) = Empties files rest
-Empties files (Prunes ∷ rest) = Empties files rest
+Empties files (Commits (Settles kind end) ∷ rest) = Empties files rest
+Empties files (Commits (Unstages pair) ∷ rest) = Empties files rest
+Empties files (Commits (Does u) ∷ rest) = Empties files rest
+Empties files (Commits Prunes ∷ rest) = Empties files rest
 Empties files (Removes serial ∷ rest) = Empties (filter (λ x. not (x.serial == serial)) files) rest
-Empties files (Clears ∷ rest) = (files ≡ []) × Empties files rest
+Empties files (Commits Clears ∷ rest) = (files ≡ []) × Empties files rest
 
 pub empties_does : (us : List BootUnit) (files : List File) (rest : List BootTask)
-    → Empties files rest → Empties files (map Does us ++ rest)
+    → Empties files rest → Empties files (unit_tasks us ++ rest)
 empties_does [] files rest e = e
 empties_does (u ∷ us) files rest e = empties_does us files rest e

@@ -1,14 +1,15 @@
 -- Units of files alone add to what is kept, and the request is cleared when no file is left.
 use Rattle.std.proofs.Common.{◌≡◌, ℕ, ◌+◌, ◌≤◌, inl, inr, Bool, true, false, cond, not, ◌||◌, ◌==◌}
-use Rattle.std.proofs.Common.{List, [], ◌∷◌, ◌++◌, map, filter, flat_map, drop, refl, arith, sym}
-use Rattle.std.proofs.Common.{ap, ◌∙◌, subst, append_assoc, option_and_then}
+use Rattle.std.proofs.Common.{List, [], ◌∷◌, ◌++◌, filter, flat_map, drop, refl, arith, sym}
+use Rattle.std.proofs.Common.{ap, ◌∙◌, subst, append_assoc}
 use Rattle.std.specs.List.{AllByRecursion}
 use Rattle.reference_machine.specs.Boots.{BootTask, file_tasks, file_delivery, files_in_order}
 use Rattle.reference_machine.specs.Boots.{folder_tasks, memory_delivery, pair_tasks, prune_tasks}
-use Rattle.reference_machine.specs.Boots.{staged_in_order, staged_tasks}
-use Rattle.reference_machine.specs.Boots.BootTask.{Does, Prunes, Removes, Clears}
+use Rattle.reference_machine.specs.Boots.{staged_in_order, staged_tasks, unit_tasks}
+use Rattle.reference_machine.specs.Boots.BootBatch.{Prunes, Clears}
+use Rattle.reference_machine.specs.Boots.BootTask.{Commits, Removes}
 use Rattle.reference_machine.specs.declared.snapshot.StagedPair.{StagedPair}
-use Rattle.reference_machine.specs.Deliveries.{BootUnit, pieces, units}
+use Rattle.reference_machine.specs.Deliveries.{BootUnit, units}
 use Rattle.reference_machine.specs.Formats.{Formats}
 use Rattle.bench_model.specs.Files.{File}
 use Rattle.reference_machine.specs.Machine.{Machine}
@@ -18,7 +19,7 @@ use Rattle.reference_machine.specs.Spent.{spent}
 use Rattle.reference_machine.proofs.Apart.{all_both, all_kept, all_imply, kept_pass}
 use Rattle.reference_machine.proofs.Filing.{has, serials_of, or_right, same, Known, known_append}
 use Rattle.reference_machine.proofs.Filing.{known_units, Empties, empties_does}
-use Rattle.reference_machine.proofs.Keys.{Numbered, all_numbered, rest_numbered}
+use Rattle.reference_machine.proofs.Keys.{Numbered, units_numbered, rest_numbered}
 use Rattle.reference_machine.proofs.Ordered.{all_ordered}
 
 -- the serials of files in order are the serials of the files
@@ -66,9 +67,8 @@ known_pairs f m last serials [] all = tt
 known_pairs f m last serials (p ∷ ps) all =
     let us : List BootUnit = units f (memory_delivery f m p) m.board in
     let numbered : Numbered 0 p.serial 0 us =
-    all_numbered (memory_delivery f m p) 0
-    (pieces m.board (option_and_then f.capsules (memory_delivery f m p).bytes)) in
-    known_append last serials (map Does us) (flat_map (pair_tasks f m) ps)
+    units_numbered f (memory_delivery f m p) m.board in
+    known_append last serials (unit_tasks us) (flat_map (pair_tasks f m) ps)
     (known_units last serials 0 p.serial 0 us numbered (inl (refl, all.0)))
     (known_pairs f m last serials ps all.1)
 
@@ -78,7 +78,7 @@ empties_pairs : (f : Formats) (m : Machine) (ps : List StagedPair) (files : List
 empties_pairs f m [] files rest e = e
 empties_pairs f m (p ∷ ps) files rest e =
     let us : List BootUnit = units f (memory_delivery f m p) m.board in
-    subst (Empties files) (sym (append_assoc (map Does us) (flat_map (pair_tasks f m) ps) rest))
+    subst (Empties files) (sym (append_assoc (unit_tasks us) (flat_map (pair_tasks f m) ps) rest))
     (empties_does us files (flat_map (pair_tasks f m) ps ++ rest)
     (empties_pairs f m ps files rest e))
 
@@ -91,10 +91,10 @@ known_files f m last serials (x ∷ xs) all =
     let us : List BootUnit = drop (spent m.list x.serial) (units f (file_delivery x) m.board) in
     let numbered : Numbered 1 x.serial (0 + spent m.list x.serial) us =
     rest_numbered 1 x.serial 0 (spent m.list x.serial) (units f (file_delivery x) m.board)
-    (all_numbered (file_delivery x) 0
-    (pieces m.board (option_and_then f.capsules (file_delivery x).bytes))) in
-    known_append last serials (map Does us ++ Removes x.serial ∷ []) (flat_map (file_tasks f m) xs)
-    (known_append last serials (map Does us) (Removes x.serial ∷ [])
+    (units_numbered f (file_delivery x) m.board) in
+    known_append last serials (unit_tasks us ++ Removes x.serial ∷ [])
+    (flat_map (file_tasks f m) xs)
+    (known_append last serials (unit_tasks us) (Removes x.serial ∷ [])
     (known_units last serials 1 x.serial (0 + spent m.list x.serial) us numbered
     (inr (refl, all.0))) tt)
     (known_files f m last serials xs all.1)
@@ -121,10 +121,10 @@ empties_files f m [] files rest all e =
 empties_files f m (x ∷ xs) files rest all e =
     let us : List BootUnit = drop (spent m.list x.serial) (units f (file_delivery x) m.board) in
     let keep : File → Bool = λ y. not (y.serial == x.serial) in
-    let split : (map Does us ++ Removes x.serial ∷ []) ++ flat_map (file_tasks f m) xs ++ rest
-    ≡ map Does us ++ (Removes x.serial ∷ (flat_map (file_tasks f m) xs ++ rest)) =
-    append_assoc (map Does us ++ Removes x.serial ∷ []) (flat_map (file_tasks f m) xs) rest
-    ∙ append_assoc (map Does us) (Removes x.serial ∷ [])
+    let split : (unit_tasks us ++ Removes x.serial ∷ []) ++ flat_map (file_tasks f m) xs ++ rest
+    ≡ unit_tasks us ++ (Removes x.serial ∷ (flat_map (file_tasks f m) xs ++ rest)) =
+    append_assoc (unit_tasks us ++ Removes x.serial ∷ []) (flat_map (file_tasks f m) xs) rest
+    ∙ append_assoc (unit_tasks us) (Removes x.serial ∷ [])
     (flat_map (file_tasks f m) xs ++ rest) in
     let still : AllByRecursion (λ (y : File). has (serials_of xs) y.serial ≡ true)
     (filter keep files) =
@@ -143,7 +143,7 @@ empties_files f m (x ∷ xs) files rest all e =
 known_prune : (m : Machine) (last : ℕ) (serials : List ℕ) → Known last serials (prune_tasks m)
 known_prune m last serials = by_test _
   where
-    by_test : (t : Bool) → Known last serials (cond t (Prunes ∷ []) [])
+    by_test : (t : Bool) → Known last serials (cond t (Commits Prunes ∷ []) [])
     by_test true = tt
     by_test false = tt
 
@@ -160,9 +160,10 @@ known_folder f m last serials all = by_bit m.is_signalled
         (all_ordered (λ (x : File). has serials x.serial ≡ true)
         (λ x y. is_taken_before x.name y.name) m.files all)
 
-    by_bit : (t : Bool) → Known last serials (cond t (prune_tasks m ++ files ++ Clears ∷ []) [])
+    by_bit : (t : Bool)
+        → Known last serials (cond t (prune_tasks m ++ files ++ Commits Clears ∷ []) [])
     by_bit true =
-        known_append last serials (prune_tasks m ++ files) (Clears ∷ [])
+        known_append last serials (prune_tasks m ++ files) (Commits Clears ∷ [])
         (known_append last serials (prune_tasks m) files (known_prune m last serials) known) tt
     by_bit false = tt
 
@@ -181,7 +182,7 @@ empties_prune : (m : Machine) (files : List File) (rest : List BootTask) → Emp
     → Empties files (prune_tasks m ++ rest)
 empties_prune m files rest e = by_test _
   where
-    by_test : (t : Bool) → Empties files (cond t (Prunes ∷ []) [] ++ rest)
+    by_test : (t : Bool) → Empties files (cond t (Commits Prunes ∷ []) [] ++ rest)
     by_test true = e
     by_test false = e
 
@@ -198,11 +199,12 @@ empties_folder f m = by_bit m.is_signalled
         (λ y h. has_ordered (λ a b. is_taken_before a.name b.name) m.files y.serial ∙ h) m.files
         (has_each m.files)
 
-    by_bit : (t : Bool) → Empties m.files (cond t (prune_tasks m ++ files ++ Clears ∷ []) [])
+    by_bit : (t : Bool)
+        → Empties m.files (cond t (prune_tasks m ++ files ++ Commits Clears ∷ []) [])
     by_bit true =
-        subst (Empties m.files) (sym (append_assoc (prune_tasks m) files (Clears ∷ [])))
-        (empties_prune m m.files (files ++ Clears ∷ [])
-        (empties_files f m (files_in_order m) m.files (Clears ∷ []) all (refl, tt)))
+        subst (Empties m.files) (sym (append_assoc (prune_tasks m) files (Commits Clears ∷ [])))
+        (empties_prune m m.files (files ++ Commits Clears ∷ [])
+        (empties_files f m (files_in_order m) m.files (Commits Clears ∷ []) all (refl, tt)))
     by_bit false = tt
 
 pub empties_work : (f : Formats) (m : Machine)

@@ -1,7 +1,7 @@
 -- A boot under way: nothing is open and no settlement is left, or the last element is open and is
 -- settled next.
 use Rattle.std.proofs.Common.{◌≡◌, ℕ, zero, suc, ◌≤◌, ◌⊎◌, inl, inr, Bool, true, false, cond, List}
-use Rattle.std.proofs.Common.{[], ◌∷◌, ◌++◌, length, map, flat_map, find, refl, sym, ap, ◌∙◌, subst}
+use Rattle.std.proofs.Common.{[], ◌∷◌, ◌++◌, length, flat_map, find, refl, sym, ap, ◌∙◌, subst}
 use Rattle.std.proofs.Common.{Option, Some, None, nat_le, drop, T}
 use lib.Dec.{leb→le}
 use Rattle.reference_machine.specs.declared.unit.End.{End}
@@ -14,8 +14,9 @@ use Rattle.reference_machine.specs.Boots.{staged_tasks, folder_tasks, file_tasks
 use Rattle.reference_machine.specs.Boots.{files_in_order, pair_tasks, memory_delivery}
 use Rattle.reference_machine.specs.Boots.{staged_in_order, prune_tasks, course_of, course_of_try}
 use Rattle.reference_machine.specs.Boots.{element_of, element_with, parts_tried, settled}
-use Rattle.reference_machine.specs.Boots.{settled_with}
-use Rattle.reference_machine.specs.Boots.BootTask.{Settles, Unstages, Does, Prunes, Removes, Clears}
+use Rattle.reference_machine.specs.Boots.{settled_with, unit_tasks}
+use Rattle.reference_machine.specs.Boots.BootTask.{Commits, Removes}
+use Rattle.reference_machine.specs.Boots.BootBatch.{Settles, Unstages, Does, Prunes, Clears}
 use Rattle.reference_machine.specs.Boots.Course.{Claim, Close}
 use Rattle.reference_machine.specs.Deliveries.{BootUnit, units}
 use Rattle.reference_machine.specs.Formats.{Formats, Parts}
@@ -35,22 +36,22 @@ use Rattle.reference_machine.proofs.Lists.{find_last, settled_list}
 -- no settlement is left
 abbrev pub NoSettles : List BootTask → Type 0
 NoSettles [] = Unit {0}
-NoSettles (Settles kind end ∷ rest) = ⊥
-NoSettles (Unstages pair ∷ rest) = NoSettles rest
-NoSettles (Does unit ∷ rest) = NoSettles rest
-NoSettles (Prunes ∷ rest) = NoSettles rest
+NoSettles (Commits (Settles kind end) ∷ rest) = ⊥
+NoSettles (Commits (Unstages pair) ∷ rest) = NoSettles rest
+NoSettles (Commits (Does unit) ∷ rest) = NoSettles rest
+NoSettles (Commits Prunes ∷ rest) = NoSettles rest
 NoSettles (Removes serial ∷ rest) = NoSettles rest
-NoSettles (Clears ∷ rest) = NoSettles rest
+NoSettles (Commits Clears ∷ rest) = NoSettles rest
 
 -- a settlement comes next, and no other
 abbrev pub IsSettling : List BootTask → Type 0
 IsSettling [] = ⊥
-IsSettling (Settles kind end ∷ rest) = IsHeldEnd end × NoSettles rest
-IsSettling (Unstages pair ∷ rest) = ⊥
-IsSettling (Does unit ∷ rest) = ⊥
-IsSettling (Prunes ∷ rest) = ⊥
+IsSettling (Commits (Settles kind end) ∷ rest) = IsHeldEnd end × NoSettles rest
+IsSettling (Commits (Unstages pair) ∷ rest) = ⊥
+IsSettling (Commits (Does unit) ∷ rest) = ⊥
+IsSettling (Commits Prunes ∷ rest) = ⊥
 IsSettling (Removes serial ∷ rest) = ⊥
-IsSettling (Clears ∷ rest) = ⊥
+IsSettling (Commits Clears ∷ rest) = ⊥
 
 abbrev pub Going : Machine → List BootTask → Type 0
 Going m left = (Rests m.board m.list × NoSettles left) ⊎ (Pends m.board m.list × IsSettling left)
@@ -68,7 +69,8 @@ le_of a b h = leb→le a b (subst T (sym h) tt)
 
 -- a try that is claimed passed the check of its version, the fourth
 fourth_passed : (a b c d e : Bool) (i j k l m : ℕ)
-    → course_of_try (first_refusal (check a i ∷ check b j ∷ check c k ∷ check d l ∷ check e m ∷ [])) ≡ Claim
+    → course_of_try
+    (first_refusal (check a i ∷ check b j ∷ check c k ∷ check d l ∷ check e m ∷ [])) ≡ Claim
     → d ≡ true
 fourth_passed true true true true e i j k l m h = refl
 fourth_passed true true true false e i j k l m h = cc
@@ -153,20 +155,20 @@ settle_going m end rest held p n =
 pub after_going : (f : Formats) (b : BootState) (left : List BootTask) → Going b.machine left
     → b.left ≡ left → Going (after f b left).machine (after f b left).left
 after_going f b [] g e = subst (Going b.machine) (sym e) g
-after_going f b (Settles kind end ∷ rest) (inl g) e = absurd g.1
-after_going f b (Settles kind end ∷ rest) (inr g) e =
+after_going f b (Commits (Settles kind end) ∷ rest) (inl g) e = absurd g.1
+after_going f b (Commits (Settles kind end) ∷ rest) (inr g) e =
     settle_going b.machine end rest g.1.0 g.0 g.1.1
-after_going f b (Unstages pair ∷ rest) (inl g) e = inl g
-after_going f b (Unstages pair ∷ rest) (inr g) e = absurd g.1
-after_going f b (Does u ∷ rest) (inl g) e =
+after_going f b (Commits (Unstages pair) ∷ rest) (inl g) e = inl g
+after_going f b (Commits (Unstages pair) ∷ rest) (inr g) e = absurd g.1
+after_going f b (Commits (Does u) ∷ rest) (inl g) e =
     unit_going f b u rest (course_of f b.machine u u.kind) refl g.0 g.1
-after_going f b (Does u ∷ rest) (inr g) e = absurd g.1
-after_going f b (Prunes ∷ rest) (inl g) e = inl g
-after_going f b (Prunes ∷ rest) (inr g) e = absurd g.1
+after_going f b (Commits (Does u) ∷ rest) (inr g) e = absurd g.1
+after_going f b (Commits Prunes ∷ rest) (inl g) e = inl g
+after_going f b (Commits Prunes ∷ rest) (inr g) e = absurd g.1
 after_going f b (Removes serial ∷ rest) (inl g) e = inl g
 after_going f b (Removes serial ∷ rest) (inr g) e = absurd g.1
-after_going f b (Clears ∷ rest) (inl g) e = inl g
-after_going f b (Clears ∷ rest) (inr g) e = absurd g.1
+after_going f b (Commits Clears ∷ rest) (inl g) e = inl g
+after_going f b (Commits Clears ∷ rest) (inr g) e = absurd g.1
 
 pub steps_going : (f : Formats) (n : ℕ) (b : BootState) → Going b.machine b.left
     → Going (after_steps f n b).machine (after_steps f n b).left
@@ -177,14 +179,14 @@ steps_going f (suc n) b g =
 -- the work of a boot settles nothing but what was open before
 settles_append : (xs ys : List BootTask) → NoSettles xs → NoSettles ys → NoSettles (xs ++ ys)
 settles_append [] ys a b = b
-settles_append (Settles kind end ∷ xs) ys a b = absurd a
-settles_append (Unstages pair ∷ xs) ys a b = settles_append xs ys a b
-settles_append (Does unit ∷ xs) ys a b = settles_append xs ys a b
-settles_append (Prunes ∷ xs) ys a b = settles_append xs ys a b
+settles_append (Commits (Settles kind end) ∷ xs) ys a b = absurd a
+settles_append (Commits (Unstages pair) ∷ xs) ys a b = settles_append xs ys a b
+settles_append (Commits (Does unit) ∷ xs) ys a b = settles_append xs ys a b
+settles_append (Commits Prunes ∷ xs) ys a b = settles_append xs ys a b
 settles_append (Removes serial ∷ xs) ys a b = settles_append xs ys a b
-settles_append (Clears ∷ xs) ys a b = settles_append xs ys a b
+settles_append (Commits Clears ∷ xs) ys a b = settles_append xs ys a b
 
-settles_does : (us : List BootUnit) → NoSettles (map Does us)
+settles_does : (us : List BootUnit) → NoSettles (unit_tasks us)
 settles_does [] = tt
 settles_does (u ∷ us) = settles_does us
 
@@ -196,7 +198,7 @@ settles_each g h (x ∷ xs) = settles_append (g x) (flat_map g xs) (h x) (settle
 settles_prune : (m : Machine) → NoSettles (prune_tasks m)
 settles_prune m = by_test _
   where
-    by_test : (t : Bool) → NoSettles (cond t (Prunes ∷ []) [])
+    by_test : (t : Bool) → NoSettles (cond t (Commits Prunes ∷ []) [])
     by_test true = tt
     by_test false = tt
 
@@ -208,16 +210,16 @@ settles_folder f m = by_bit m.is_signalled
 
     of_file : (x : File) → NoSettles (file_tasks f m x)
     of_file x = settles_append
-        (map Does (drop (spent m.list x.serial) (units f (file_delivery x) m.board)))
+        (unit_tasks (drop (spent m.list x.serial) (units f (file_delivery x) m.board)))
         (Removes x.serial ∷ [])
         (settles_does (drop (spent m.list x.serial) (units f (file_delivery x) m.board))) tt
 
     none : NoSettles files
     none = settles_each (file_tasks f m) of_file (files_in_order m)
 
-    by_bit : (t : Bool) → NoSettles (cond t (prune_tasks m ++ files ++ Clears ∷ []) [])
+    by_bit : (t : Bool) → NoSettles (cond t (prune_tasks m ++ files ++ Commits Clears ∷ []) [])
     by_bit true =
-        settles_append (prune_tasks m ++ files) (Clears ∷ [])
+        settles_append (prune_tasks m ++ files) (Commits Clears ∷ [])
         (settles_append (prune_tasks m) files (settles_prune m) none) tt
     by_bit false = tt
 

@@ -1,14 +1,16 @@
 -- The list of spent units only grows, but for its last element closing.
 use Rattle.std.proofs.Common.{◌≡◌, ℕ, zero, suc, inl, inr, List, [], ◌∷◌, ◌++◌, map, find, refl}
 use Rattle.std.proofs.Common.{sym, ap, ◌∙◌, subst, append_assoc, append-nil, Option, Some, None}
+use Rattle.reference_machine.specs.declared.event.Event.{Event}
 use Rattle.reference_machine.specs.declared.unit.End.{End}
 use Rattle.reference_machine.specs.Boots.{BootTask, BootState, Course, after, after_unit, next}
 use Rattle.reference_machine.specs.Boots.{after_steps, boot_start, boot_at, boot_tasks, tasks_with}
 use Rattle.reference_machine.specs.Boots.{closed_with, course_of, settled_with}
-use Rattle.reference_machine.specs.Boots.BootTask.{Settles, Unstages, Does, Prunes, Removes, Clears}
+use Rattle.reference_machine.specs.Boots.BootTask.{Commits, Removes}
+use Rattle.reference_machine.specs.Boots.BootBatch.{Settles, Unstages, Does, Prunes, Clears}
 use Rattle.reference_machine.specs.Boots.Course.{Claim, Close}
 use Rattle.reference_machine.specs.Deliveries.{BootUnit}
-use Rattle.reference_machine.specs.Events.{Act, Step}
+use Rattle.reference_machine.specs.Events.{InputBytes, Step}
 use Rattle.reference_machine.specs.Formats.{Formats}
 use Rattle.reference_machine.specs.Laws.{Grows, ClosesLast}
 use Rattle.reference_machine.specs.Machine.{Machine}
@@ -52,13 +54,14 @@ module _ (base : List Element) (none : NoneOpen base) where
   after_extends : (f : Formats) (b : BootState) (left : List BootTask) → Extends base b.machine.list
       → Extends base (after f b left).machine.list
   after_extends f b [] x = x
-  after_extends f b (Settles kind end ∷ rest) x =
+  after_extends f b (Commits (Settles kind end) ∷ rest) x =
       settled_extends b.machine end (find is_open b.machine.list) x
-  after_extends f b (Unstages pair ∷ rest) x = x
-  after_extends f b (Does u ∷ rest) x = unit_extends f b u rest (course_of f b.machine u u.kind) x
-  after_extends f b (Prunes ∷ rest) x = x
+  after_extends f b (Commits (Unstages pair) ∷ rest) x = x
+  after_extends f b (Commits (Does u) ∷ rest) x =
+      unit_extends f b u rest (course_of f b.machine u u.kind) x
+  after_extends f b (Commits Prunes ∷ rest) x = x
   after_extends f b (Removes serial ∷ rest) x = x
-  after_extends f b (Clears ∷ rest) x = x
+  after_extends f b (Commits Clears ∷ rest) x = x
 
   pub steps_extend : (f : Formats) (n : ℕ) (b : BootState) → Extends base b.machine.list
       → Extends base (after_steps f n b).machine.list
@@ -124,10 +127,11 @@ boot_grows f m h j (inl r) =
 boot_grows f m h j (inr p) = pending_grows f m h p j
 
 -- the list after an event
-pub event_grows : (f : Formats) (m : Machine) (act : Act) (entry : EntryValue) (new : Machine)
-    → Sound m → Step f m act entry new → Grows m.list new.list
-event_grows f m act entry new sound s =
-    step_leads f m (λ (x : Machine). Grows m.list x.list) leads act entry new s
+pub event_grows : (f : Formats) (bytes_of : InputBytes) (m : Machine) (event : Event)
+    (entry : EntryValue) (new : Machine) → Sound m → Step f bytes_of m event entry new
+    → Grows m.list new.list
+event_grows f bytes_of m event entry new sound s =
+    step_leads f bytes_of m (λ (x : Machine). Grows m.list x.list) leads event entry new s
   where
     same : Grows m.list m.list
     same = inl ([], sym (append-nil m.list))

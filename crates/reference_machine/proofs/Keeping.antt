@@ -7,19 +7,22 @@ use Rattle.reference_machine.specs.declared.unit.End.{End}
 use Rattle.reference_machine.specs.declared.unit.End.TheVariants.{Sealed, Kept, Lost}
 use Rattle.reference_machine.specs.Boots.{boot_at, boot_of, boot_tasks}
 use Rattle.bench_model.specs.Boards.{BoardValue}
-use Rattle.reference_machine.specs.Events.{IsStopped, Act, Outcome, IsIn, Step, outcome}
+use Rattle.reference_machine.specs.Events.{InputBytes, IsStopped, Outcome, IsIn, Step, outcome}
 use Rattle.reference_machine.specs.Events.{other_outcomes, stage_faults, stage_done, stage_refusal}
-use Rattle.reference_machine.specs.Events.{failed, with_file, is_folder_full, signalled}
+use Rattle.reference_machine.specs.Events.{failed, with_file, signalled}
 use Rattle.reference_machine.specs.Events.{with_segment, with_staged, cold, warm, wraps}
 use Rattle.reference_machine.specs.Events.{is_memory_full, plain}
-use Rattle.reference_machine.specs.Events.Act.{Time, Drop, Signal, Lay, Stage, Boot, Arm, Fail}
-use Rattle.reference_machine.specs.Events.Act.{Reset, Show}
+use Rattle.reference_machine.specs.declared.event.Event.{Event}
+use Rattle.reference_machine.specs.declared.event.Event.TheVariants.{Time, Drop, Signal, Lay, Poke}
+use Rattle.reference_machine.specs.declared.event.Event.TheVariants.{Stage, Boot, Arm, Fail, Reset}
+use Rattle.reference_machine.specs.declared.event.Event.TheVariants.{Show}
+use Rattle.bench_model.specs.Files.{is_folder_full}
 use Rattle.reference_machine.specs.Formats.{Formats}
 use Rattle.reference_machine.specs.Stops.{StopCause, IsHeldEnd, Agrees, AgreesAfterFlash}
 use Rattle.reference_machine.specs.Stops.{AgreesAfterVolume, IsStoppedAt, IsStoppedAfter}
 use Rattle.reference_machine.specs.Laws.{IsReached}
 use Rattle.reference_machine.specs.Laws.IsReached.{Fresh, ByEvent, BySteps}
-use Rattle.reference_machine.specs.Machine.{Machine, fresh}
+use Rattle.reference_machine.specs.Machine.{Machine, fresh, folder_of}
 use Rattle.reference_machine.specs.Report.{ReportValue}
 use Rattle.reference_machine.specs.TraceValues.{AnswerValue, EntryValue}
 use Rattle.reference_machine.specs.TraceValues.AnswerValue.{Full}
@@ -27,7 +30,8 @@ use Rattle.reference_machine.specs.TraceValues.AnswerValue.{Full}
 pub record Keeps (f : Formats) (P : Machine → Type 0) : Type 0 where
   pub fails : (m : Machine) → P m → P (failed m)
   pub later : (m : Machine) (moment : EfiTime) → P m → P (record m { now = moment })
-  pub puts : (m : Machine) (file bytes : List ℕ) → is_folder_full m file bytes ≡ false → P m
+  pub puts : (m : Machine) (file bytes : List ℕ)
+      → is_folder_full (folder_of m) file (length bytes) ≡ false → P m
       → P (with_file m file bytes)
   pub asks : (m : Machine) → P m → P (signalled m)
   pub lays : (m : Machine) (address : ℕ) (bytes : List ℕ) → P m → P (with_segment m address bytes)
@@ -42,7 +46,7 @@ pub record Leads (f : Formats) (m : Machine) (Q : Machine → Type 0) : Type 0 w
   pub stays : Q m
   pub fails : (x : Machine) → Q x → Q (failed x)
   pub later : (moment : EfiTime) → Q (record m { now = moment })
-  pub puts : (file bytes : List ℕ) → is_folder_full m file bytes ≡ false
+  pub puts : (file bytes : List ℕ) → is_folder_full (folder_of m) file (length bytes) ≡ false
       → Q (with_file m file bytes)
   pub asks : Q (signalled m)
   pub lays : (address : ℕ) (bytes : List ℕ) → Q (with_segment m address bytes)
@@ -67,8 +71,10 @@ test_leaves : (P : Machine → Type 0) (os : List Outcome) (t : Bool) → AllLea
 test_leaves P os true all = all
 test_leaves P os false all = tt
 
-module _ (f : Formats) (m : Machine) (Q : Machine → Type 0) (k : Leads f m Q) where
-  drop_leaves : (file bytes : List ℕ) (full : Bool) → is_folder_full m file bytes ≡ full
+module _ (f : Formats) (bytes_of : InputBytes) (m : Machine) (Q : Machine → Type 0)
+    (k : Leads f m Q) where
+  drop_leaves : (file bytes : List ℕ) (full : Bool)
+      → is_folder_full (folder_of m) file (length bytes) ≡ full
       → Q (cond {A = Outcome} full (plain Full, m)
       (plain (AnswerValue.Serial (m.last_file + 1)), with_file m file bytes)).1
   drop_leaves file bytes true e = k.stays
@@ -89,16 +95,21 @@ module _ (f : Formats) (m : Machine) (Q : Machine → Type 0) (k : Leads f m Q) 
   boot_leaves : (h : End) → IsHeldEnd h → Q (boot_of f m h).machine
   boot_leaves h held = k.boots h (2 * length (boot_tasks f m h)) held
 
-  pub outcome_leaves : (act : Act) → Q (outcome f m act).1
+  pub outcome_leaves : (event : Event) → Q (outcome f bytes_of m event).1
   outcome_leaves (Time moment) = k.later moment
-  outcome_leaves (Drop file bytes) = drop_leaves file bytes (is_folder_full m file bytes) refl
+  outcome_leaves (Drop file input) =
+      drop_leaves file (bytes_of input)
+      (is_folder_full (folder_of m) file (length (bytes_of input))) refl
   outcome_leaves Signal = k.asks
-  outcome_leaves (Lay address bytes) =
+  outcome_leaves (Lay address input) =
+      lay_leaves address (bytes_of input) (wraps address (bytes_of input))
+      (is_memory_full m (bytes_of input))
+  outcome_leaves (Poke address bytes) =
       lay_leaves address bytes (wraps address bytes) (is_memory_full m bytes)
   outcome_leaves (Stage address) = stage_leaves address (stage_refusal f m address) refl
   outcome_leaves Boot = boot_leaves Sealed tt
-  outcome_leaves Arm = k.stays
-  outcome_leaves Fail = k.stays
+  outcome_leaves (Arm after choice) = k.stays
+  outcome_leaves (Fail nth) = k.stays
   outcome_leaves (Reset true) = k.cold
   outcome_leaves (Reset false) = k.warm
   outcome_leaves Show = k.stays
@@ -132,18 +143,19 @@ module _ (f : Formats) (m : Machine) (Q : Machine → Type 0) (k : Leads f m Q) 
   agreed_leaves h r StopCause.Volume new held (tells, a) = volume_leaves h r new held a
   agreed_leaves h r StopCause.Memory new held (tells, a) = stopped_at h r new held a
 
-  stop_leaves : (act : Act) (entry : EntryValue) (new : Machine)
-      → IsStopped f m act entry new → Q new
+  stop_leaves : (event : Event) (entry : EntryValue) (new : Machine)
+      → IsStopped f m event entry new → Q new
   stop_leaves (Time moment) entry new s = absurd s
-  stop_leaves (Drop file bytes) entry new s = absurd s
+  stop_leaves (Drop file input) entry new s = absurd s
   stop_leaves Signal entry new s = absurd s
-  stop_leaves (Lay address bytes) entry new s = absurd s
+  stop_leaves (Lay address input) entry new s = absurd s
+  stop_leaves (Poke address bytes) entry new s = absurd s
   stop_leaves (Stage address) entry new s = absurd s
   stop_leaves Boot entry new s =
       subst Q (sym s.is_new)
       (k.fails s.machine (agreed_leaves s.heal s.report s.cause s.machine s.is_held s.agrees))
-  stop_leaves Arm entry new s = absurd s
-  stop_leaves Fail entry new s = absurd s
+  stop_leaves (Arm after choice) entry new s = absurd s
+  stop_leaves (Fail nth) entry new s = absurd s
   stop_leaves (Reset cold) entry new s = absurd s
   stop_leaves Show entry new s = absurd s
 
@@ -158,33 +170,39 @@ module _ (f : Formats) (m : Machine) (Q : Machine → Type 0) (k : Leads f m Q) 
   )
   stage_faults_leave address (Some answer) e = (failed_here, (failed_here, (failed_here, tt)))
 
-  drop_faults_leave : (file bytes : List ℕ) (full : Bool) → is_folder_full m file bytes ≡ full
+  drop_faults_leave : (file bytes : List ℕ) (full : Bool)
+      → is_folder_full (folder_of m) file (length bytes) ≡ full
       → AllLeave Q (cond full []
       ((plain AnswerValue.VolumeFault, failed (with_file m file bytes)) ∷ []))
   drop_faults_leave file bytes true e = tt
   drop_faults_leave file bytes false e =
       (k.fails (with_file m file bytes) (k.puts file bytes e), tt)
 
-  others_leave : (act : Act) → AllLeave Q (other_outcomes f m act)
+  others_leave : (event : Event) → AllLeave Q (other_outcomes f bytes_of m event)
   others_leave (Time moment) = tt
-  others_leave (Drop file bytes) =
-      (failed_here, drop_faults_leave file bytes (is_folder_full m file bytes) refl)
+  others_leave (Drop file input) = (
+    failed_here,
+    drop_faults_leave file (bytes_of input)
+        (is_folder_full (folder_of m) file (length (bytes_of input))) refl,
+  )
   others_leave Signal =
       (failed_here, (failed_here, (failed_here, (k.fails (signalled m) k.asks, tt))))
-  others_leave (Lay address bytes) = tt
+  others_leave (Lay address input) = tt
+  others_leave (Poke address bytes) = tt
   others_leave (Stage address) = stage_faults_leave address (stage_refusal f m address) refl
   others_leave Boot = (failed_here, (boot_leaves Kept tt, (boot_leaves Lost tt, tt)))
-  others_leave Arm = tt
-  others_leave Fail = tt
+  others_leave (Arm after choice) = tt
+  others_leave (Fail nth) = tt
   others_leave (Reset true) = tt
   others_leave (Reset false) = test_leaves Q _ m.failed (k.cold, tt)
   others_leave Show = (failed_here, (failed_here, tt))
 
-  pub step_leads : (act : Act) (entry : EntryValue) (new : Machine) → Step f m act entry new → Q new
-  step_leads act entry new (inl s) =
-      leave_in Q (outcome f m act ∷ other_outcomes f m act) (entry, new)
-      (outcome_leaves act, others_leave act) s
-  step_leads act entry new (inr s) = stop_leaves act entry new s
+  pub step_leads : (event : Event) (entry : EntryValue) (new : Machine)
+      → Step f bytes_of m event entry new → Q new
+  step_leads event entry new (inl s) =
+      leave_in Q (outcome f bytes_of m event ∷ other_outcomes f bytes_of m event) (entry, new)
+      (outcome_leaves event, others_leave event) s
+  step_leads event entry new (inr s) = stop_leaves event entry new s
 
 module _ (f : Formats) (P : Machine → Type 0) (k : Keeps f P) where
   leads : (m : Machine) → P m → Leads f m P
@@ -201,15 +219,17 @@ module _ (f : Formats) (P : Machine → Type 0) (k : Keeps f P) where
     boots = λ h j held. k.boots m h j held p;
   }
 
-  pub step_keeps : (m : Machine) (act : Act) (entry : EntryValue) (new : Machine) → P m
-      → Step f m act entry new → P new
-  step_keeps m act entry new p s = step_leads f m P (leads m p) act entry new s
+  pub step_keeps : (bytes_of : InputBytes) (m : Machine) (event : Event) (entry : EntryValue)
+      (new : Machine) → P m
+      → Step f bytes_of m event entry new → P new
+  step_keeps bytes_of m event entry new p s =
+      step_leads f bytes_of m P (leads m p) event entry new s
 
   -- what each event and each step of a boot keeps holds of every machine that is reached
   pub reached_keeps : (board : BoardValue) (m : Machine) → P (fresh board)
       → IsReached f board m → P m
   reached_keeps board m start Fresh = start
-  reached_keeps board m start (ByEvent old act entry _ r s) =
-      step_keeps old act entry m (reached_keeps board old start r) s
+  reached_keeps board m start (ByEvent bytes_of old event entry _ r s) =
+      step_keeps bytes_of old event entry m (reached_keeps board old start r) s
   reached_keeps board m start (BySteps old h j r held) =
       k.boots old h j held (reached_keeps board old start r)

@@ -1,17 +1,18 @@
 -- The serials in kept: none twice, and few, since the work on a folder begins with those of its
 -- files alone.
 use Rattle.std.proofs.Common.{◌≡◌, ℕ, ◌+◌, ◌≤◌, inl, inr, Bool, true, false, cond, not, ◌||◌, ◌==◌}
-use Rattle.std.proofs.Common.{List, [], ◌∷◌, ◌++◌, length, map, filter, flat_map, refl, arith, sym}
-use Rattle.std.proofs.Common.{ap, ◌∙◌, subst, append_assoc, option_and_then}
+use Rattle.std.proofs.Common.{List, [], ◌∷◌, ◌++◌, length, filter, flat_map, refl, arith, sym}
+use Rattle.std.proofs.Common.{ap, ◌∙◌, subst, append_assoc}
 use Rattle.std.specs.List.{AllByRecursion, list_any}
 use Rattle.bench_model.specs.declared.outside_limits.TheConstants.{MAX_FILES}
 use Rattle.reference_machine.specs.declared.snapshot.StagedPair.{StagedPair}
 use Rattle.reference_machine.specs.declared.unit.UnitKey.{UnitKey}
 use Rattle.reference_machine.specs.Boots.{BootTask, progress_with, is_file, file_tasks}
 use Rattle.reference_machine.specs.Boots.{files_in_order, folder_tasks, memory_delivery, pair_tasks}
-use Rattle.reference_machine.specs.Boots.{staged_in_order, staged_tasks}
-use Rattle.reference_machine.specs.Boots.BootTask.{Settles, Unstages, Does, Prunes, Removes, Clears}
-use Rattle.reference_machine.specs.Deliveries.{BootUnit, pieces, units}
+use Rattle.reference_machine.specs.Boots.{staged_in_order, staged_tasks, unit_tasks}
+use Rattle.reference_machine.specs.Boots.BootTask.{Commits, Removes}
+use Rattle.reference_machine.specs.Boots.BootBatch.{Settles, Unstages, Does, Prunes, Clears}
+use Rattle.reference_machine.specs.Deliveries.{BootUnit, units}
 use Rattle.reference_machine.specs.Formats.{Formats}
 use Rattle.reference_machine.specs.Laws.{Distinct}
 use Rattle.bench_model.specs.Files.{File}
@@ -19,7 +20,7 @@ use Rattle.reference_machine.specs.Machine.{Machine}
 use Rattle.reference_machine.proofs.Apart.{all_both, all_kept, all_imply, all_more, distinct_kept}
 use Rattle.reference_machine.proofs.Apart.{distinct_more, kept_pass}
 use Rattle.reference_machine.proofs.Filing.{has, same_of, has_all, has_filter, IsKnown}
-use Rattle.reference_machine.proofs.Keys.{Numbered, all_numbered}
+use Rattle.reference_machine.proofs.Keys.{Numbered, units_numbered}
 use Rattle.reference_machine.proofs.Ordered.{turned}
 
 -- each number of a list stands in another
@@ -147,28 +148,30 @@ memory_keeps in_progress key e =
 -- makes them so
 abbrev pub Ready : List ℕ → List ℕ → List BootTask → Type 0
 Ready serials in_progress [] = Unit {0}
-Ready serials in_progress (Settles kind end ∷ rest) = Ready serials in_progress rest
-Ready serials in_progress (Unstages pair ∷ rest) = Ready serials in_progress rest
-Ready serials in_progress (Does u ∷ rest) =
+Ready serials in_progress (Commits (Settles kind end) ∷ rest) = Ready serials in_progress rest
+Ready serials in_progress (Commits (Unstages pair) ∷ rest) = Ready serials in_progress rest
+Ready serials in_progress (Commits (Does u) ∷ rest) =
     (u.key.ticket.route ≡ 1 → AllIn serials in_progress) × Ready serials in_progress rest
-Ready serials in_progress (Prunes ∷ rest) = Unit {0}
+Ready serials in_progress (Commits Prunes ∷ rest) = Unit {0}
 Ready serials in_progress (Removes serial ∷ rest) = Ready serials in_progress rest
-Ready serials in_progress (Clears ∷ rest) = Ready serials in_progress rest
+Ready serials in_progress (Commits Clears ∷ rest) = Ready serials in_progress rest
 
 pub ready_all : (serials in_progress : List ℕ) (left : List BootTask) → AllIn serials in_progress
     → Ready serials in_progress left
 ready_all serials in_progress [] all = tt
-ready_all serials in_progress (Settles kind end ∷ rest) all = ready_all serials in_progress rest all
-ready_all serials in_progress (Unstages pair ∷ rest) all = ready_all serials in_progress rest all
-ready_all serials in_progress (Does u ∷ rest) all =
+ready_all serials in_progress (Commits (Settles kind end) ∷ rest) all =
+    ready_all serials in_progress rest all
+ready_all serials in_progress (Commits (Unstages pair) ∷ rest) all =
+    ready_all serials in_progress rest all
+ready_all serials in_progress (Commits (Does u) ∷ rest) all =
     (λ e. all, ready_all serials in_progress rest all)
-ready_all serials in_progress (Prunes ∷ rest) all = tt
+ready_all serials in_progress (Commits Prunes ∷ rest) all = tt
 ready_all serials in_progress (Removes serial ∷ rest) all = ready_all serials in_progress rest all
-ready_all serials in_progress (Clears ∷ rest) all = ready_all serials in_progress rest all
+ready_all serials in_progress (Commits Clears ∷ rest) all = ready_all serials in_progress rest all
 
 ready_units : (serials in_progress : List ℕ) (s n : ℕ) (us : List BootUnit) (rest : List BootTask)
     → Numbered 0 s n us → Ready serials in_progress rest
-    → Ready serials in_progress (map Does us ++ rest)
+    → Ready serials in_progress (unit_tasks us ++ rest)
 ready_units serials in_progress s n [] rest h r = r
 ready_units serials in_progress s n (u ∷ us) rest h r = (
   λ e. absurd (let never : 0 ≡ 1 = sym h.0.route ∙ e in cc),
@@ -182,10 +185,9 @@ ready_pairs f m serials in_progress [] rest r = r
 ready_pairs f m serials in_progress (p ∷ ps) rest r =
     let us : List BootUnit = units f (memory_delivery f m p) m.board in
     let numbered : Numbered 0 p.serial 0 us =
-    all_numbered (memory_delivery f m p) 0
-    (pieces m.board (option_and_then f.capsules (memory_delivery f m p).bytes)) in
+    units_numbered f (memory_delivery f m p) m.board in
     subst (Ready serials in_progress)
-    (sym (append_assoc (map Does us) (flat_map (pair_tasks f m) ps) rest))
+    (sym (append_assoc (unit_tasks us) (flat_map (pair_tasks f m) ps) rest))
     (ready_units serials in_progress p.serial 0 us (flat_map (pair_tasks f m) ps ++ rest) numbered
     (ready_pairs f m serials in_progress ps rest r))
 
@@ -223,23 +225,26 @@ ready_folder f m serials there = by_bit m.is_signalled
     files = flat_map (file_tasks f m) (files_in_order m)
 
     by_test : (t : Bool) → list_any (λ s. not (is_file m.files s)) m.in_progress ≡ t
-        → Ready serials m.in_progress (cond t (Prunes ∷ []) [] ++ (files ++ Clears ∷ []))
+        → Ready serials m.in_progress
+        (cond t (Commits Prunes ∷ []) [] ++ (files ++ Commits Clears ∷ []))
     by_test true e = tt
     by_test false e =
-        ready_all serials m.in_progress (files ++ Clears ∷ [])
+        ready_all serials m.in_progress (files ++ Commits Clears ∷ [])
         (all_imply (λ s. is_file m.files s ≡ true) (λ s. has serials s ≡ true)
         (λ s h. file_in serials m.files s there h) m.in_progress
         (all_files m.files m.in_progress e))
 
     by_bit : (t : Bool)
         → Ready serials m.in_progress
-        (cond t (cond (list_any (λ s. not (is_file m.files s)) m.in_progress) (Prunes ∷ []) []
-        ++ files ++ Clears ∷ []) [])
+        (cond t
+        (cond (list_any (λ s. not (is_file m.files s)) m.in_progress) (Commits Prunes ∷ []) []
+        ++ files ++ Commits Clears ∷ []) [])
     by_bit true =
         subst (Ready serials m.in_progress)
         (sym (append_assoc
-        (cond (list_any (λ s. not (is_file m.files s)) m.in_progress) (Prunes ∷ []) []) files
-        (Clears ∷ [])))
+        (cond (list_any (λ s. not (is_file m.files s)) m.in_progress) (Commits Prunes ∷ []) [])
+        files
+        (Commits Clears ∷ [])))
         (by_test (list_any (λ s. not (is_file m.files s)) m.in_progress) refl)
     by_bit false = tt
 
@@ -273,7 +278,7 @@ kept_in serials last in_progress left few once below all = record {
 -- a unit more
 pub kept_unit : (serials : List ℕ) (staged last : ℕ) (in_progress : List ℕ) (u : BootUnit)
     (rest : List BootTask) → length serials ≤ MAX_FILES → AllByRecursion (λ s. s ≤ last) serials
-    → IsKnown staged serials u.key → KeptIs serials last in_progress (Does u ∷ rest)
+    → IsKnown staged serials u.key → KeptIs serials last in_progress (Commits (Does u) ∷ rest)
     → KeptIs serials last (progress_with in_progress u.key) rest
 kept_unit serials staged last in_progress u rest few below (inl h) k =
     subst (λ ns. KeptIs serials last ns rest) (sym (memory_keeps in_progress u.key h.0))

@@ -1,22 +1,24 @@
 -- In every machine that is reached the units of each delivery stand in order.
 use Rattle.std.proofs.Common.{◌≡◌, ℕ, zero, suc, ◌+◌, ◌≤◌, inl, inr, Bool, true, false, cond, not}
-use Rattle.std.proofs.Common.{◌&&◌, ◌==◌, List, [], ◌∷◌, ◌++◌, length, map, filter, flat_map, find}
+use Rattle.std.proofs.Common.{◌&&◌, ◌==◌, List, [], ◌∷◌, ◌++◌, length, filter, flat_map, find}
 use Rattle.std.proofs.Common.{drop, refl, arith, sym, ap, ◌∙◌, subst, append_assoc, Option, Some}
-use Rattle.std.proofs.Common.{None, option_and_then}
+use Rattle.std.proofs.Common.{None}
 use Rattle.std.specs.List.{AllByRecursion}
 use Rattle.std.proofs.lemmas.Bool.Decides.{nat_tests}
 use Rattle.reference_machine.specs.declared.snapshot.StagedPair.{StagedPair}
 use Rattle.reference_machine.specs.declared.unit.End.{End}
 use Rattle.reference_machine.specs.declared.unit.UnitKey.{UnitKey}
-use Rattle.reference_machine.specs.Boots.{BootTask, BootState, Course, after, after_unit, element_of}
+use Rattle.reference_machine.specs.Boots.{BootTask, BootState, Course, after, after_unit}
+use Rattle.reference_machine.specs.Boots.{element_of}
 use Rattle.reference_machine.specs.Boots.{after_steps, boot_start, boot_at, boot_tasks, tasks_with}
 use Rattle.reference_machine.specs.Boots.{staged_tasks, folder_tasks, file_tasks, file_delivery}
 use Rattle.reference_machine.specs.Boots.{files_in_order, pair_tasks, memory_delivery}
 use Rattle.reference_machine.specs.Boots.{staged_in_order, prune_tasks, course_of, settled}
-use Rattle.reference_machine.specs.Boots.{settled_with}
-use Rattle.reference_machine.specs.Boots.BootTask.{Settles, Unstages, Does, Prunes, Removes, Clears}
+use Rattle.reference_machine.specs.Boots.{settled_with, unit_tasks}
+use Rattle.reference_machine.specs.Boots.BootTask.{Commits, Removes}
+use Rattle.reference_machine.specs.Boots.BootBatch.{Settles, Unstages, Does, Prunes, Clears}
 use Rattle.reference_machine.specs.Boots.Course.{Claim, Close}
-use Rattle.reference_machine.specs.Deliveries.{BootUnit, pieces, units}
+use Rattle.reference_machine.specs.Deliveries.{BootUnit, units}
 use Rattle.reference_machine.specs.Formats.{Formats}
 use Rattle.reference_machine.specs.Laws.{AreApart}
 use Rattle.reference_machine.specs.Stops.{IsHeldEnd}
@@ -29,7 +31,7 @@ use Rattle.reference_machine.proofs.Apart.{settled_apart, boot_apart, apart_keep
 use Rattle.reference_machine.proofs.Going.{Sound, sound_of, boot_going}
 use Rattle.reference_machine.proofs.Keeping.{Keeps}
 use Rattle.reference_machine.proofs.Keys.{count, keys_of, Gapless, keys_append, keys_closed}
-use Rattle.reference_machine.proofs.Keys.{gapless_more, Ahead, Numbered, all_numbered}
+use Rattle.reference_machine.proofs.Keys.{gapless_more, Ahead, Numbered, units_numbered}
 use Rattle.reference_machine.proofs.Keys.{rest_numbered, count_other, spent_all}
 use Rattle.reference_machine.proofs.Lists.{Rests, NoneOpen, find_none, find_last, settled_list}
 use Rattle.reference_machine.proofs.Ordered.{all_ordered, distinct_ordered, turned, files_ahead}
@@ -48,17 +50,17 @@ Keyed m = AreKeyed (keys_of m.list) m.staged m.last_staged
 -- the units by memory that are left are of deliveries that wait no longer
 abbrev pub Waits : ℕ → List StagedPair → List BootTask → Type 0
 Waits last staged [] = Unit {0}
-Waits last staged (Settles kind end ∷ rest) = Waits last staged rest
-Waits last staged (Unstages p ∷ rest) =
+Waits last staged (Commits (Settles kind end) ∷ rest) = Waits last staged rest
+Waits last staged (Commits (Unstages p) ∷ rest) =
     Waits last (filter (λ q. not (q.serial == p.serial)) staged) rest
-Waits last staged (Does u ∷ rest) =
+Waits last staged (Commits (Does u) ∷ rest) =
     ((u.key.ticket.route == 0) ≡ true
     → (u.key.ticket.serial ≤ last)
     × AllByRecursion (λ (q : StagedPair). (q.serial == u.key.ticket.serial) ≡ false) staged)
     × Waits last staged rest
-Waits last staged (Prunes ∷ rest) = Waits last staged rest
+Waits last staged (Commits Prunes ∷ rest) = Waits last staged rest
 Waits last staged (Removes serial ∷ rest) = Waits last staged rest
-Waits last staged (Clears ∷ rest) = Waits last staged rest
+Waits last staged (Commits Clears ∷ rest) = Waits last staged rest
 
 -- with the tasks that are left
 pub record AreRunning (keys : List UnitKey) (staged : List StagedPair) (last : ℕ)
@@ -104,7 +106,7 @@ not_waiting k s h = by_route (k.ticket.route == 0) refl
 
 -- with one more key
 key_runs : (keys : List UnitKey) (staged : List StagedPair) (last : ℕ) (u : BootUnit)
-    (rest : List BootTask) → AreRunning keys staged last (Does u ∷ rest)
+    (rest : List BootTask) → AreRunning keys staged last (Commits (Does u) ∷ rest)
     → AreRunning (keys ++ u.key ∷ []) staged last rest
 key_runs keys staged last u rest r = record {
   keyed = record {
@@ -130,7 +132,7 @@ key_runs keys staged last u rest r = record {
 
 -- and with the element of a unit
 unit_left : (f : Formats) (m : Machine) (u : BootUnit) (rest : List BootTask) (standing : Standing)
-    → Runs m (Does u ∷ rest)
+    → Runs m (Commits (Does u) ∷ rest)
     → AreRunning (keys_of (m.list ++ element_of f u standing ∷ [])) m.staged m.last_staged rest
 unit_left f m u rest standing r =
     subst (λ ks. AreRunning ks m.staged m.last_staged rest)
@@ -138,7 +140,7 @@ unit_left f m u rest standing r =
     (key_runs (keys_of m.list) m.staged m.last_staged u rest r)
 
 unit_runs : (f : Formats) (b : BootState) (u : BootUnit) (rest : List BootTask) (c : Course)
-    → Runs b.machine (Does u ∷ rest)
+    → Runs b.machine (Commits (Does u) ∷ rest)
     → Runs (after_unit f b u rest c).machine (after_unit f b u rest c).left
 unit_runs f b u rest Claim r =
     let n : AreRunning (keys_of (b.machine.list ++ element_of f u Open ∷ [])) b.machine.staged
@@ -150,12 +152,12 @@ unit_runs f b u rest (Close end) r =
 after_runs : (f : Formats) (b : BootState) (left : List BootTask) → b.left ≡ left
     → Runs b.machine left → Runs (after f b left).machine (after f b left).left
 after_runs f b [] e r = subst (Runs b.machine) (sym e) r
-after_runs f b (Settles kind end ∷ rest) e r =
+after_runs f b (Commits (Settles kind end) ∷ rest) e r =
     let found : Option Element = find is_open b.machine.list in
     runs_same b.machine (settled b.machine end) rest (settled_keys b.machine end found)
     (settled_staged b.machine end found) (settled_last b.machine end found)
     (record { keyed = r.keyed; ahead = r.ahead; waits = r.waits })
-after_runs f b (Unstages p ∷ rest) e r = record {
+after_runs f b (Commits (Unstages p) ∷ rest) e r = record {
   keyed = record {
     gapless = r.keyed.gapless;
     waiting = all_kept (λ (q : StagedPair). count 0 q.serial (keys_of b.machine.list) ≡ 0)
@@ -165,12 +167,13 @@ after_runs f b (Unstages p ∷ rest) e r = record {
   ahead = r.ahead;
   waits = r.waits;
 }
-after_runs f b (Does u ∷ rest) e r = unit_runs f b u rest (course_of f b.machine u u.kind) r
-after_runs f b (Prunes ∷ rest) e r =
+after_runs f b (Commits (Does u) ∷ rest) e r =
+    unit_runs f b u rest (course_of f b.machine u u.kind) r
+after_runs f b (Commits Prunes ∷ rest) e r =
     record { keyed = r.keyed; ahead = r.ahead; waits = r.waits }
 after_runs f b (Removes serial ∷ rest) e r =
     record { keyed = r.keyed; ahead = r.ahead; waits = r.waits }
-after_runs f b (Clears ∷ rest) e r =
+after_runs f b (Commits Clears ∷ rest) e r =
     record { keyed = r.keyed; ahead = r.ahead; waits = r.waits }
 
 steps_runs : (f : Formats) (n : ℕ) (b : BootState) → Runs b.machine b.left
@@ -188,7 +191,7 @@ prune_ahead : (m : Machine) (keys : List UnitKey) (rest : List BootTask) → Ahe
     → Ahead keys (prune_tasks m ++ rest)
 prune_ahead m keys rest a = by_test _
   where
-    by_test : (t : Bool) → Ahead keys (cond t (Prunes ∷ []) [] ++ rest)
+    by_test : (t : Bool) → Ahead keys (cond t (Commits Prunes ∷ []) [] ++ rest)
     by_test true = a
     by_test false = a
 
@@ -199,18 +202,18 @@ folder_ahead f m keys none a same = by_bit m.is_signalled
     files : List BootTask
     files = flat_map (file_tasks f m) (files_in_order m)
 
-    done : Ahead keys (files ++ Clears ∷ [])
-    done = files_ahead f m (files_in_order m) keys (Clears ∷ []) (λ ks. tt)
+    done : Ahead keys (files ++ Commits Clears ∷ [])
+    done = files_ahead f m (files_in_order m) keys (Commits Clears ∷ []) (λ ks. tt)
         (distinct_ordered (λ (x y : File). x.serial == y.serial)
         (λ x y. Rattle.reference_machine.specs.Names.is_taken_before x.name y.name)
         (λ x y h. turned x.serial y.serial h) m.files a.files)
         (each_true (λ (x : File). count 1 x.serial keys ≡ spent m.list x.serial)
         (λ x. same x.serial ∙ sym (spent_all m.list x.serial none)) (files_in_order m))
 
-    by_bit : (t : Bool) → Ahead keys (cond t (prune_tasks m ++ files ++ Clears ∷ []) [])
+    by_bit : (t : Bool) → Ahead keys (cond t (prune_tasks m ++ files ++ Commits Clears ∷ []) [])
     by_bit true =
-        subst (Ahead keys) (sym (append_assoc (prune_tasks m) files (Clears ∷ [])))
-        (prune_ahead m keys (files ++ Clears ∷ []) done)
+        subst (Ahead keys) (sym (append_assoc (prune_tasks m) files (Commits Clears ∷ [])))
+        (prune_ahead m keys (files ++ Commits Clears ∷ []) done)
     by_bit false = tt
 
 work_ahead : (f : Formats) (m : Machine) → NoneOpen m.list → AreApart m → Keyed m
@@ -229,7 +232,7 @@ does_wait : (r s n last : ℕ) (us : List BootUnit) (staged : List StagedPair) (
     → Numbered r s n us
     → ((r == 0) ≡ true
     → (s ≤ last) × AllByRecursion (λ (q : StagedPair). (q.serial == s) ≡ false) staged)
-    → Waits last staged rest → Waits last staged (map Does us ++ rest)
+    → Waits last staged rest → Waits last staged (unit_tasks us ++ rest)
 does_wait r s n last [] staged rest h w later = later
 does_wait r s n last (u ∷ us) staged rest h w later =
     let here : (u.key.ticket.route == 0) ≡ true
@@ -250,15 +253,14 @@ staged_wait f m last (p ∷ ps) staged rest all free =
     let us : List BootUnit = units f (memory_delivery f m p) m.board in
     let in_progress : List StagedPair = filter (λ q. not (q.serial == p.serial)) staged in
     let numbered : Numbered 0 p.serial 0 us =
-    all_numbered (memory_delivery f m p) 0
-    (pieces m.board (option_and_then f.capsules (memory_delivery f m p).bytes)) in
+    units_numbered f (memory_delivery f m p) m.board in
     let gone : AllByRecursion (λ (q : StagedPair). (q.serial == p.serial) ≡ false) in_progress =
     all_imply (λ (q : StagedPair). not (q.serial == p.serial) ≡ true)
     (λ (q : StagedPair). (q.serial == p.serial) ≡ false)
     (λ q h. no_longer (q.serial == p.serial) h) in_progress
     (kept_pass (λ q. not (q.serial == p.serial)) staged) in
     subst (Waits last in_progress)
-    (sym (append_assoc (map Does us) (flat_map (pair_tasks f m) ps) rest))
+    (sym (append_assoc (unit_tasks us) (flat_map (pair_tasks f m) ps) rest))
     (does_wait 0 p.serial 0 last us in_progress (flat_map (pair_tasks f m) ps ++ rest) numbered
     (λ e. (all.0, gone)) (staged_wait f m last ps in_progress rest all.1 free))
 
@@ -270,12 +272,11 @@ files_wait f m last (x ∷ xs) staged rest later =
     let us : List BootUnit = drop (spent m.list x.serial) (units f (file_delivery x) m.board) in
     let numbered : Numbered 1 x.serial (0 + spent m.list x.serial) us =
     rest_numbered 1 x.serial 0 (spent m.list x.serial) (units f (file_delivery x) m.board)
-    (all_numbered (file_delivery x) 0
-    (pieces m.board (option_and_then f.capsules (file_delivery x).bytes))) in
-    let split : (map Does us ++ Removes x.serial ∷ []) ++ flat_map (file_tasks f m) xs ++ rest
-    ≡ map Does us ++ (Removes x.serial ∷ (flat_map (file_tasks f m) xs ++ rest)) =
-    append_assoc (map Does us ++ Removes x.serial ∷ []) (flat_map (file_tasks f m) xs) rest
-    ∙ append_assoc (map Does us) (Removes x.serial ∷ [])
+    (units_numbered f (file_delivery x) m.board) in
+    let split : (unit_tasks us ++ Removes x.serial ∷ []) ++ flat_map (file_tasks f m) xs ++ rest
+    ≡ unit_tasks us ++ (Removes x.serial ∷ (flat_map (file_tasks f m) xs ++ rest)) =
+    append_assoc (unit_tasks us ++ Removes x.serial ∷ []) (flat_map (file_tasks f m) xs) rest
+    ∙ append_assoc (unit_tasks us) (Removes x.serial ∷ [])
     (flat_map (file_tasks f m) xs ++ rest) in
     let no : (1 == 0) ≡ true
     → (x.serial ≤ last)
@@ -290,7 +291,7 @@ prune_wait : (m : Machine) (last : ℕ) (staged : List StagedPair) (rest : List 
     → Waits last staged rest → Waits last staged (prune_tasks m ++ rest)
 prune_wait m last staged rest w = by_test _
   where
-    by_test : (t : Bool) → Waits last staged (cond t (Prunes ∷ []) [] ++ rest)
+    by_test : (t : Bool) → Waits last staged (cond t (Commits Prunes ∷ []) [] ++ rest)
     by_test true = w
     by_test false = w
 
@@ -301,11 +302,12 @@ folder_wait f m last staged = by_bit m.is_signalled
     files : List BootTask
     files = flat_map (file_tasks f m) (files_in_order m)
 
-    by_bit : (t : Bool) → Waits last staged (cond t (prune_tasks m ++ files ++ Clears ∷ []) [])
+    by_bit : (t : Bool)
+        → Waits last staged (cond t (prune_tasks m ++ files ++ Commits Clears ∷ []) [])
     by_bit true =
-        subst (Waits last staged) (sym (append_assoc (prune_tasks m) files (Clears ∷ [])))
-        (prune_wait m last staged (files ++ Clears ∷ [])
-        (files_wait f m last (files_in_order m) staged (Clears ∷ []) tt))
+        subst (Waits last staged) (sym (append_assoc (prune_tasks m) files (Commits Clears ∷ [])))
+        (prune_wait m last staged (files ++ Commits Clears ∷ [])
+        (files_wait f m last (files_in_order m) staged (Commits Clears ∷ []) tt))
     by_bit false = tt
 
 work_waits : (f : Formats) (m : Machine) → AreApart m

@@ -1,16 +1,24 @@
 -- The units of one delivery stand in order without gaps, so no key stands twice.
 use Rattle.std.proofs.Common.{◌≡◌, ℕ, zero, suc, ◌+◌, ◌≤◌, Bool, true, false, cond, not, ◌&&◌, ◌==◌}
-use Rattle.std.proofs.Common.{List, [], ◌∷◌, ◌++◌, length, map, filter, drop, refl, arith, sym, ap}
-use Rattle.std.proofs.Common.{◌∙◌, subst, append_assoc, append-nil, Some}
-use Rattle.std.specs.List.{enumerate_from}
+use Rattle.std.proofs.Common.{List, [], ◌∷◌, ◌++◌, length, map, filter, flat_map, drop, refl, arith}
+use Rattle.std.proofs.Common.{sym, ap, ◌∙◌, subst, append_assoc, append-nil, Option, Some, None}
+use Rattle.std.proofs.Common.{option_and_then}
+use Rattle.std.specs.List.{AllByRecursion, enumerate_from}
 use Rattle.std.proofs.lemmas.Bool.Decides.{nat_tests}
 use Rattle.cu_base.proofs.Lists.{filter_more}
+use Rattle.bench_model.specs.Boards.{BoardValue}
+use Rattle.cu_base.specs.declared.guid.Guid.{Guid}
 use Rattle.cu_base.specs.declared.time.EfiTime.{EfiTime}
 use Rattle.reference_machine.specs.declared.unit.End.{End}
+use Rattle.reference_machine.specs.declared.unit.Kind.TheVariants.{Try, Skip}
 use Rattle.reference_machine.specs.declared.unit.UnitKey.{UnitKey}
-use Rattle.reference_machine.specs.Boots.{BootTask, closed_with}
-use Rattle.reference_machine.specs.Boots.BootTask.{Settles, Unstages, Does, Prunes, Removes, Clears}
-use Rattle.reference_machine.specs.Deliveries.{BootUnit, Delivery, Piece, unit_of}
+use Rattle.reference_machine.specs.Boots.{BootTask, closed_with, unit_tasks}
+use Rattle.reference_machine.specs.Boots.BootTask.{Commits, Removes}
+use Rattle.reference_machine.specs.Boots.BootBatch.{Settles, Unstages, Does, Prunes, Clears}
+use Rattle.reference_machine.specs.Deliveries.{BootUnit, Delivery, units, numbered, tries_on}
+use Rattle.reference_machine.specs.Deliveries.{item_unit, item_units, capsule_units, decoded_units}
+use Rattle.reference_machine.specs.Deliveries.{is_passed_over, targets, bare_unit, unnumbered_key}
+use Rattle.reference_machine.specs.Formats.{Capsule, Formats, Item}
 use Rattle.reference_machine.specs.Laws.{StandInOrder, HaveDistinctKeys}
 use Rattle.reference_machine.specs.Spent.{Element, is_of, is_open, is_closed, spent}
 use Rattle.reference_machine.specs.Spent.Standing.{Closed}
@@ -158,14 +166,14 @@ distinct_keys list g before between rest a b is same =
 -- the units that are left stand in order behind these keys
 abbrev pub Ahead : List UnitKey → List BootTask → Type 0
 Ahead keys [] = Unit {0}
-Ahead keys (Settles kind end ∷ rest) = Ahead keys rest
-Ahead keys (Unstages pair ∷ rest) = Ahead keys rest
-Ahead keys (Does u ∷ rest) =
+Ahead keys (Commits (Settles kind end) ∷ rest) = Ahead keys rest
+Ahead keys (Commits (Unstages pair) ∷ rest) = Ahead keys rest
+Ahead keys (Commits (Does u) ∷ rest) =
     (u.key.unit ≡ count u.key.ticket.route u.key.ticket.serial keys)
     × Ahead (keys ++ u.key ∷ []) rest
-Ahead keys (Prunes ∷ rest) = Ahead keys rest
+Ahead keys (Commits Prunes ∷ rest) = Ahead keys rest
 Ahead keys (Removes serial ∷ rest) = Ahead keys rest
-Ahead keys (Clears ∷ rest) = Ahead keys rest
+Ahead keys (Commits Clears ∷ rest) = Ahead keys rest
 
 -- units of one delivery with rising numbers
 pub record IsUnit (r s n : ℕ) (u : BootUnit) : Type 0 where
@@ -180,11 +188,66 @@ Numbered r s n (u ∷ us) = IsUnit r s n u × Numbered r s (n + 1) us
 abbrev pub unit_keys : List BootUnit → List UnitKey
 unit_keys us = map (λ u. u.key) us
 
-pub all_numbered : (d : Delivery) (n : ℕ) (ps : List Piece)
-    → Numbered d.route d.serial n (map (unit_of d) (enumerate_from n ps))
-all_numbered d n [] = tt
-all_numbered d n (p ∷ ps) =
-    (record { route = refl; serial = refl; number = refl }, all_numbered d (n + 1) ps)
+-- a unit is of a delivery
+abbrev IsUnitOf : Delivery → BootUnit → Type 0
+IsUnitOf d u = (u.key.ticket.route ≡ d.route) × (u.key.ticket.serial ≡ d.serial)
+
+all_numbered : (d : Delivery) (n : ℕ) (us : List BootUnit) → AllByRecursion (IsUnitOf d) us
+    → Numbered d.route d.serial n (map numbered (enumerate_from n us))
+all_numbered d n [] all = tt
+all_numbered d n (u ∷ us) all =
+    (record { route = all.0.0; serial = all.0.1; number = refl }, all_numbered d (n + 1) us all.1)
+
+all_append : {X : Type 0} (P : X → Type 0) (xs ys : List X) → AllByRecursion P xs
+    → AllByRecursion P ys → AllByRecursion P (xs ++ ys)
+all_append P [] ys a b = b
+all_append P (x ∷ xs) ys a b = (a.0, all_append P xs ys a.1 b)
+
+all_flat : {X Y : Type 0} (P : Y → Type 0) (g : X → List Y) → ((x : X) → AllByRecursion P (g x))
+    → (xs : List X) → AllByRecursion P (flat_map g xs)
+all_flat P g h [] = tt
+all_flat P g h (x ∷ xs) = all_append P (g x) (flat_map g xs) (h x) (all_flat P g h xs)
+
+all_mapped : {X Y : Type 0} (P : Y → Type 0) (g : X → Y) → ((x : X) → P (g x)) → (xs : List X)
+    → AllByRecursion P (map g xs)
+all_mapped P g h [] = tt
+all_mapped P g h (x ∷ xs) = (h x, all_mapped P g h xs)
+
+item_in : (board : BoardValue) (d : Delivery) (n : ℕ) (guid : Guid) (p : ℕ × Item)
+    → AllByRecursion (IsUnitOf d) (item_units board d n guid p)
+item_in board d n guid (k, item) = by_targets (targets item.head board)
+  where
+    by_targets : (ts : List ℕ)
+        → AllByRecursion (IsUnitOf d) (tries_on (item_unit d n guid (k, item)) ts)
+    by_targets [] = ((refl, refl), tt)
+    by_targets (t ∷ ts) =
+        all_mapped (IsUnitOf d) (item_unit d n guid (k, item) Try) (λ x. (refl, refl)) (t ∷ ts)
+
+capsule_in : (board : BoardValue) (d : Delivery) (p : ℕ × Capsule)
+    → AllByRecursion (IsUnitOf d) (capsule_units board d p)
+capsule_in board d (n, c) = by_test (is_passed_over c)
+  where
+    by_test : (b : Bool)
+        → AllByRecursion (IsUnitOf d)
+        (cond b (bare_unit Skip (unnumbered_key d n 0 255) c.guid ∷ [])
+        (flat_map (item_units board d n c.guid) (enumerate_from 0 c.items)))
+    by_test true = ((refl, refl), tt)
+    by_test false =
+        all_flat (IsUnitOf d) (item_units board d n c.guid) (item_in board d n c.guid)
+        (enumerate_from 0 c.items)
+
+decoded_in : (board : BoardValue) (d : Delivery) (found : Option (List Capsule))
+    → AllByRecursion (IsUnitOf d) (decoded_units board d found)
+decoded_in board d None = ((refl, refl), tt)
+decoded_in board d (Some capsules) =
+    all_flat (IsUnitOf d) (capsule_units board d) (capsule_in board d) (enumerate_from 0 capsules)
+
+-- the units of a delivery are numbered from 0
+pub units_numbered : (f : Formats) (d : Delivery) (board : BoardValue)
+    → Numbered d.route d.serial 0 (units f d board)
+units_numbered f d board =
+    all_numbered d 0 (decoded_units board d (option_and_then f.capsules d.bytes))
+    (decoded_in board d (option_and_then f.capsules d.bytes))
 
 -- what is left of them behind the first k
 pub rest_numbered : (r s n k : ℕ) (us : List BootUnit) → Numbered r s n us
@@ -203,7 +266,7 @@ unit_is_of r s n u h =
 -- such units stand in order behind as many keys of their delivery as their first number says
 pub do_ahead : (r s n : ℕ) (us : List BootUnit) (keys : List UnitKey) (rest : List BootTask)
     → Numbered r s n us → count r s keys ≡ n → Ahead (keys ++ unit_keys us) rest
-    → Ahead keys (map Does us ++ rest)
+    → Ahead keys (unit_tasks us ++ rest)
 do_ahead r s n [] keys rest h e a = subst (λ ks. Ahead ks rest) (append-nil keys) a
 do_ahead r s n (u ∷ us) keys rest h e a =
     let here : count r s keys ≡ count u.key.ticket.route u.key.ticket.serial keys =

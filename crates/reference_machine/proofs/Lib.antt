@@ -11,6 +11,7 @@ pub mod KeptLemmas
 pub mod Keyed
 pub mod Keys
 pub mod Lists
+pub mod Moving
 pub mod Once
 pub mod Ordered
 pub mod Reached

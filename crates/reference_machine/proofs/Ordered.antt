@@ -1,23 +1,23 @@
 -- Each boot does the units of a delivery in order: its work begins where the list of spent units
 -- ends.
 use Rattle.std.proofs.Common.{◌≡◌, ℕ, suc, ◌+◌, length, ap, Bool, true, false, cond, ◌==◌, List, []}
-use Rattle.std.proofs.Common.{◌∷◌, ◌++◌, map, flat_map, drop, refl, arith, sym, ◌∙◌, subst}
+use Rattle.std.proofs.Common.{◌∷◌, ◌++◌, flat_map, drop, refl, arith, sym, ◌∙◌, subst}
 use Rattle.std.proofs.Common.{append_assoc}
-use Rattle.std.specs.List.{AllByRecursion, enumerate_from}
+use Rattle.std.specs.List.{AllByRecursion}
 use Rattle.std.proofs.lemmas.Bool.Decides.{nat_tests}
 use Rattle.reference_machine.specs.declared.snapshot.StagedPair.{StagedPair}
 use Rattle.reference_machine.specs.declared.unit.UnitKey.{UnitKey}
 use Rattle.reference_machine.specs.Boots.{BootTask, file_tasks, file_delivery, pair_tasks}
-use Rattle.reference_machine.specs.Boots.{memory_delivery}
-use Rattle.reference_machine.specs.Boots.BootTask.{Does, Removes}
-use Rattle.reference_machine.specs.Deliveries.{BootUnit, pieces, units}
+use Rattle.reference_machine.specs.Boots.{memory_delivery, unit_tasks}
+use Rattle.reference_machine.specs.Boots.BootTask.{Removes}
+use Rattle.reference_machine.specs.Deliveries.{BootUnit, units}
 use Rattle.reference_machine.specs.Formats.{Formats}
 use Rattle.reference_machine.specs.Laws.{Distinct}
 use Rattle.bench_model.specs.Files.{File}
 use Rattle.reference_machine.specs.Machine.{Machine}
 use Rattle.reference_machine.specs.Order.{inserted, in_order}
 use Rattle.reference_machine.specs.Spent.{spent}
-use Rattle.reference_machine.proofs.Keys.{count, Ahead, Numbered, unit_keys, all_numbered}
+use Rattle.reference_machine.proofs.Keys.{count, Ahead, Numbered, unit_keys, units_numbered}
 use Rattle.reference_machine.proofs.Keys.{rest_numbered, do_ahead, count_apart}
 
 -- an order keeps what holds of each item, and that items are distinct
@@ -73,9 +73,7 @@ files_ahead f m (x ∷ xs) keys rest free d all =
     let us : List BootUnit = drop (spent m.list x.serial) (units f (file_delivery x) m.board) in
     let numbered : Numbered 1 x.serial (0 + spent m.list x.serial) us =
     rest_numbered 1 x.serial 0 (spent m.list x.serial) (units f (file_delivery x) m.board)
-    (all_numbered (file_delivery x) 0
-    (pieces m.board
-    (Rattle.std.specs.Prelude.option_and_then f.capsules (file_delivery x).bytes))) in
+    (units_numbered f (file_delivery x) m.board) in
     let others : AllByRecursion
     (λ (y : File). count 1 y.serial (keys ++ unit_keys us) ≡ spent m.list y.serial) xs =
     all_both (λ (y : File). (x.serial == y.serial) ≡ false)
@@ -86,10 +84,10 @@ files_ahead f m (x ∷ xs) keys rest free d all =
     let later : Ahead (keys ++ unit_keys us) (flat_map (file_tasks f m) xs ++ rest) =
     files_ahead f m xs (keys ++ unit_keys us) rest free d.1 others in
     let e : count 1 x.serial keys ≡ 0 + spent m.list x.serial = all.0 ∙ omega arith in
-    let split : (map Does us ++ Removes x.serial ∷ []) ++ flat_map (file_tasks f m) xs ++ rest
-    ≡ map Does us ++ (Removes x.serial ∷ (flat_map (file_tasks f m) xs ++ rest)) =
-    append_assoc (map Does us ++ Removes x.serial ∷ []) (flat_map (file_tasks f m) xs) rest
-    ∙ append_assoc (map Does us) (Removes x.serial ∷ [])
+    let split : (unit_tasks us ++ Removes x.serial ∷ []) ++ flat_map (file_tasks f m) xs ++ rest
+    ≡ unit_tasks us ++ (Removes x.serial ∷ (flat_map (file_tasks f m) xs ++ rest)) =
+    append_assoc (unit_tasks us ++ Removes x.serial ∷ []) (flat_map (file_tasks f m) xs) rest
+    ∙ append_assoc (unit_tasks us) (Removes x.serial ∷ [])
     (flat_map (file_tasks f m) xs ++ rest) in
     subst (Ahead keys) (sym split)
     (do_ahead 1 x.serial (0 + spent m.list x.serial) us keys
@@ -111,9 +109,7 @@ staged_ahead f m [] keys rest free d all = free keys (λ s. refl)
 staged_ahead f m (p ∷ ps) keys rest free d all =
     let us : List BootUnit = units f (memory_delivery f m p) m.board in
     let numbered : Numbered 0 p.serial 0 us =
-    all_numbered (memory_delivery f m p) 0
-    (pieces m.board
-    (Rattle.std.specs.Prelude.option_and_then f.capsules (memory_delivery f m p).bytes)) in
+    units_numbered f (memory_delivery f m p) m.board in
     let others : AllByRecursion
     (λ (q : StagedPair). count 0 q.serial (keys ++ unit_keys us) ≡ 0) ps =
     all_both (λ (q : StagedPair). (p.serial == q.serial) ≡ false)
@@ -125,9 +121,9 @@ staged_ahead f m (p ∷ ps) keys rest free d all =
     let later : Ahead (keys ++ unit_keys us) (flat_map (pair_tasks f m) ps ++ rest) =
     staged_ahead f m ps (keys ++ unit_keys us) rest
     (λ ks h. free ks (λ s. h s ∙ still s)) d.1 others in
-    let split : map Does us ++ flat_map (pair_tasks f m) ps ++ rest
-    ≡ map Does us ++ (flat_map (pair_tasks f m) ps ++ rest) =
-    append_assoc (map Does us) (flat_map (pair_tasks f m) ps) rest in
+    let split : unit_tasks us ++ flat_map (pair_tasks f m) ps ++ rest
+    ≡ unit_tasks us ++ (flat_map (pair_tasks f m) ps ++ rest) =
+    append_assoc (unit_tasks us) (flat_map (pair_tasks f m) ps) rest in
     subst (Ahead keys) (sym split)
     (do_ahead 0 p.serial 0 us keys (flat_map (pair_tasks f m) ps ++ rest) numbered all.0 later)
   where

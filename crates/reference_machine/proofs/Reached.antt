@@ -1,13 +1,13 @@
 -- The laws of every machine that is reached.
-use Rattle.std.proofs.Common.{◌≡◌, ◌<◌, ◌≤◌, ◌^◌, ℕ, inl, inr, List, length, arith, refl, sym}
-use Rattle.std.proofs.Common.{subst}
+use Rattle.std.proofs.Common.{◌≡◌, ◌<◌, ◌≤◌, ◌+◌, ◌^◌, ℕ, inl, inr, List, length, map, arith, refl}
+use Rattle.std.proofs.Common.{sym, subst, add-one}
 use Rattle.bench_model.specs.Boards.{BoardValue, IsBoard}
 use Rattle.reference_machine.specs.Boots.{boot_at}
 use Rattle.reference_machine.specs.Formats.{Formats}
 use Rattle.reference_machine.specs.Laws.{IsReached, Grows, OpenIsLast, AttemptsReachFloor, AreApart}
 use Rattle.reference_machine.specs.Laws.{StandInOrder, HaveDistinctKeys, SpentFilesHaveProgress}
 use Rattle.reference_machine.specs.Laws.{IsWithinLimits, SerialsAreGiven, KeepsLimits, TellNoFault}
-use Rattle.reference_machine.specs.Events.{Act, Run, Step, trace_of, machine_after}
+use Rattle.reference_machine.specs.Events.{InputBytes, Run, Step, trace_of, machine_after}
 use Rattle.reference_machine.specs.TraceValues.{EntryValue}
 use Rattle.reference_machine.specs.Machine.{Machine, fresh}
 use Rattle.reference_machine.proofs.Apart.{apart_keeps}
@@ -19,7 +19,11 @@ use Rattle.reference_machine.proofs.Growing.{event_grows, boot_grows}
 use Rattle.reference_machine.proofs.Keyed.{Orderly, orderly_keeps}
 use Rattle.reference_machine.proofs.Keys.{in_order, distinct_keys}
 use Rattle.reference_machine.proofs.Lists.{rests_last, pends_last, reach_floor}
+use Rattle.reference_machine.proofs.Moving.{bound_grows, lines_tell}
 use Rattle.reference_machine.proofs.Short.{board_keeps, boot_short}
+use Rattle.reference_machine.specs.Moves.{closed_since, move_bound}
+use Rattle.reference_machine.specs.Stops.{IsHeldEnd}
+use Rattle.reference_machine.specs.declared.event.Event.{Event}
 use Rattle.reference_machine.specs.declared.unit.End.{End}
 
 sound_keeps : (f : Formats) → Keeps f Sound
@@ -65,14 +69,18 @@ apart f board m r =
 pub fresh_quiet : (board : BoardValue) → Quiet (fresh board)
 fresh_quiet board = record { rests = record { none = tt; above = tt }; well = refl }
 
-pub one : (f : Formats) (board : BoardValue) (acts : List Act) (told : List EntryValue)
-    (m : Machine) → Run f (fresh board) acts told m → TellNoFault told
-    → (told ≡ trace_of f (fresh board) acts) × (m ≡ machine_after f (fresh board) acts)
-one f board acts told m r h = run_once f (fresh board) acts told m (fresh_quiet board) r h
+pub one : (f : Formats) (bytes_of : InputBytes) (board : BoardValue) (events : List Event)
+    (told : List EntryValue) (m : Machine) → Run f bytes_of (fresh board) events told m
+    → TellNoFault told
+    → (told ≡ trace_of f bytes_of (fresh board) events)
+    × (m ≡ machine_after f bytes_of (fresh board) events)
+one f bytes_of board events told m r h =
+    run_once f bytes_of (fresh board) events told m (fresh_quiet board) r h
 
-pub some : (f : Formats) (board : BoardValue) (acts : List Act)
-    → Run f (fresh board) acts (trace_of f (fresh board) acts) (machine_after f (fresh board) acts)
-some f board acts = run_is f (fresh board) acts
+pub some : (f : Formats) (bytes_of : InputBytes) (board : BoardValue) (events : List Event)
+    → Run f bytes_of (fresh board) events (trace_of f bytes_of (fresh board) events)
+    (machine_after f bytes_of (fresh board) events)
+some f bytes_of board events = run_is f bytes_of (fresh board) events
 
 -- the units of each delivery stand in order
 pub orderly : (f : Formats) (board : BoardValue) (m : Machine) → IsReached f board m → Orderly m
@@ -134,12 +142,26 @@ short f board m limits is r h j =
     (subst (λ (b : BoardValue). length b.devices ≤ 16) (sym (same_board f board m r)) few)
     (within f board m r)
 
+-- the lines of a boot, and the bound on its moves
+pub lines_told : (f : Formats) (board : BoardValue) (m : Machine) → IsReached f board m
+    → (h : End) (j : ℕ) → IsHeldEnd h
+    → map (λ l. l.key) (boot_at f m h j).report.lines
+    ≡ map (λ e. e.key) (closed_since m.list (boot_at f m h j).machine.list)
+lines_told f board m r h j held = lines_tell f m h j held (reached_sound f board m r)
+
+pub moves_grow : (f : Formats) (board : BoardValue) (m : Machine) → IsReached f board m
+    → (h : End) (j : ℕ) → IsHeldEnd h
+    → move_bound f m (boot_at f m h j) ≤ move_bound f m (boot_at f m h (j + 1))
+moves_grow f board m r h j held =
+    subst (λ (n : ℕ). move_bound f m (boot_at f m h j) ≤ move_bound f m (boot_at f m h n))
+    (sym (add-one j)) (bound_grows f m h j held (reached_sound f board m r))
+
 -- the list grows by each event, and by the steps of a boot
-pub events_grow : (f : Formats) (board : BoardValue) (m : Machine) → IsReached f board m
-    → (act : Act) (entry : EntryValue) (new : Machine) → Step f m act entry new
-    → Grows m.list new.list
-events_grow f board m r act entry new s =
-    event_grows f m act entry new (reached_sound f board m r) s
+pub events_grow : (f : Formats) (bytes_of : InputBytes) (board : BoardValue) (m : Machine)
+    → IsReached f board m → (event : Event) (entry : EntryValue) (new : Machine)
+    → Step f bytes_of m event entry new → Grows m.list new.list
+events_grow f bytes_of board m r event entry new s =
+    event_grows f bytes_of m event entry new (reached_sound f board m r) s
 
 pub boots_grow : (f : Formats) (board : BoardValue) (m : Machine) → IsReached f board m
     → (h : End) (j : ℕ) → Grows m.list (boot_at f m h j).machine.list

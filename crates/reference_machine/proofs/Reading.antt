@@ -10,10 +10,13 @@ use Rattle.reference_machine.specs.declared.unit.End.{End}
 use Rattle.reference_machine.specs.declared.unit.End.TheVariants.{Sealed, Kept, Lost}
 use Rattle.reference_machine.specs.Boots.{BootTask, boot_at, boot_of, boot_tasks, tasks_with}
 use Rattle.reference_machine.specs.Deliveries.{BootUnit}
-use Rattle.reference_machine.specs.Events.{Act, IsIn, cut_machines, outcome, is_memory_full}
+use Rattle.reference_machine.specs.Events.{InputBytes, IsIn, cut_machines, outcome}
+use Rattle.reference_machine.specs.Events.{is_memory_full, before_and_after}
 use Rattle.reference_machine.specs.Events.{laid_bytes}
-use Rattle.reference_machine.specs.Events.Act.{Time, Drop, Signal, Lay, Stage, Boot, Arm, Fail}
-use Rattle.reference_machine.specs.Events.Act.{Reset, Show}
+use Rattle.reference_machine.specs.declared.event.Event.{Event}
+use Rattle.reference_machine.specs.declared.event.Event.TheVariants.{Time, Drop, Signal, Lay, Poke}
+use Rattle.reference_machine.specs.declared.event.Event.TheVariants.{Stage, Boot, Arm, Fail, Reset}
+use Rattle.reference_machine.specs.declared.event.Event.TheVariants.{Show}
 use Rattle.reference_machine.specs.Formats.{Formats, Parts}
 use Rattle.reference_machine.specs.Laws.{IsReached, IsPastMemory}
 use Rattle.reference_machine.specs.Laws.IsReached.{ByEvent, BySteps}
@@ -67,14 +70,16 @@ abbrev AllHeld : List End → Type 0
 AllHeld [] = Unit {0}
 AllHeld (h ∷ hs) = IsHeldEnd h × AllHeld hs
 
-module _ (f : Formats) (board : BoardValue) (m : Machine) (r : IsReached f board m) where
-  two_reach : (act : Act) (new : Machine) → IsIn new (m ∷ (outcome f m act).1 ∷ [])
+module _ (f : Formats) (bytes_of : InputBytes) (board : BoardValue) (m : Machine)
+    (r : IsReached f board m) where
+  two_reach : (event : Event) (new : Machine) → IsIn new (before_and_after f bytes_of m event)
       → IsReached f board new
-  two_reach act new (inl e) = subst (IsReached f board) (sym e) r
-  two_reach act new (inr (inl e)) =
+  two_reach event new (inl e) = subst (IsReached f board) (sym e) r
+  two_reach event new (inr (inl e)) =
       subst (IsReached f board) (sym e)
-      (ByEvent m act (outcome f m act).0 (outcome f m act).1 r (inl (inl refl)))
-  two_reach act new (inr (inr never)) = absurd never
+      (ByEvent bytes_of m event (outcome f bytes_of m event).0 (outcome f bytes_of m event).1 r
+      (inl (inl refl)))
+  two_reach event new (inr (inr never)) = absurd never
 
   boots_reach : (hs : List End) (new : Machine) → AllHeld hs → IsIn new (flat_map (stops f m) hs)
       → IsReached f board new
@@ -90,16 +95,17 @@ module _ (f : Formats) (board : BoardValue) (m : Machine) (r : IsReached f board
           (range_with_len 0 ((boot_of f m h).report.steps + 1)) new k
       by_side later (inr k) = later k
 
-  pub cut_reach : (act : Act) (new : Machine) → IsIn new (cut_machines f m act)
+  pub cut_reach : (event : Event) (new : Machine) → IsIn new (cut_machines f bytes_of m event)
       → IsReached f board new
   cut_reach (Time moment) new is = two_reach (Time moment) new is
-  cut_reach (Drop file bytes) new is = two_reach (Drop file bytes) new is
+  cut_reach (Drop file input) new is = two_reach (Drop file input) new is
   cut_reach Signal new is = two_reach Signal new is
-  cut_reach (Lay address bytes) new is = two_reach (Lay address bytes) new is
+  cut_reach (Lay address input) new is = two_reach (Lay address input) new is
+  cut_reach (Poke address bytes) new is = two_reach (Poke address bytes) new is
   cut_reach (Stage address) new is = two_reach (Stage address) new is
   cut_reach Boot new is = boots_reach (Sealed ∷ Kept ∷ Lost ∷ []) new (tt, (tt, (tt, tt))) is
-  cut_reach Arm new is = two_reach Arm new is
-  cut_reach Fail new is = two_reach Fail new is
+  cut_reach (Arm after choice) new is = two_reach (Arm after choice) new is
+  cut_reach (Fail nth) new is = two_reach (Fail nth) new is
   cut_reach (Reset cold) new is = two_reach (Reset cold) new is
   cut_reach Show new is = two_reach Show new is
 

@@ -1,6 +1,6 @@
 -- A boot is short: a delivery has few units, and there are few deliveries.
 use Rattle.std.proofs.Common.{◌≡◌, ℕ, zero, suc, ◌+◌, ◌-◌, ◌*◌, ◌<◌, ◌≤◌, ◌^◌, Bool, true, false}
-use Rattle.std.proofs.Common.{cond, ◌||◌, List, [], ◌∷◌, ◌++◌, length, map, filter, flat_map, find}
+use Rattle.std.proofs.Common.{cond, ◌||◌, List, [], ◌∷◌, ◌++◌, length, filter, flat_map, find}
 use Rattle.std.proofs.Common.{drop, refl, arith, sym, ap, ◌∙◌, subst, nat_lt, Option, Some, None}
 use Rattle.std.proofs.Common.{option_and_then}
 use Rattle.std.specs.List.{enumerate_from}
@@ -12,17 +12,20 @@ use Rattle.cu_base.specs.declared.guid.Guid.{Guid}
 use Rattle.bench_model.specs.Devices.{DeviceValue}
 use Rattle.reference_machine.specs.declared.snapshot.StagedPair.{StagedPair}
 use Rattle.reference_machine.specs.declared.unit.End.{End}
+use Rattle.reference_machine.specs.declared.unit.Kind.{Kind}
+use Rattle.reference_machine.specs.declared.unit.Kind.TheVariants.{Try}
 use Rattle.reference_machine.specs.Boots.{BootTask, BootState, Course, after, after_unit, next}
 use Rattle.reference_machine.specs.Boots.{after_steps, boot_start, boot_at, boot_tasks, tasks_with}
 use Rattle.reference_machine.specs.Boots.{staged_tasks, folder_tasks, file_tasks, file_delivery}
 use Rattle.reference_machine.specs.Boots.{files_in_order, pair_tasks, memory_delivery}
 use Rattle.reference_machine.specs.Boots.{staged_in_order, prune_tasks, course_of, settled}
-use Rattle.reference_machine.specs.Boots.{settled_with}
-use Rattle.reference_machine.specs.Boots.BootTask.{Settles, Unstages, Does, Prunes, Removes, Clears}
+use Rattle.reference_machine.specs.Boots.{settled_with, unit_tasks}
+use Rattle.reference_machine.specs.Boots.BootTask.{Commits, Removes}
+use Rattle.reference_machine.specs.Boots.BootBatch.{Settles, Unstages, Does, Prunes, Clears}
 use Rattle.reference_machine.specs.Boots.Course.{Claim, Close}
-use Rattle.reference_machine.specs.Deliveries.{BootUnit, Delivery, Piece, units, pieces}
-use Rattle.reference_machine.specs.Deliveries.{capsule_pieces, item_pieces, is_passed_over}
-use Rattle.reference_machine.specs.Deliveries.{is_target, targets, unit_of}
+use Rattle.reference_machine.specs.Deliveries.{BootUnit, Delivery, units, decoded_units}
+use Rattle.reference_machine.specs.Deliveries.{capsule_units, item_units, is_passed_over}
+use Rattle.reference_machine.specs.Deliveries.{is_target, targets, numbered, tries_on, item_unit}
 use Rattle.reference_machine.specs.Formats.{Capsule, Formats, Item, ItemHead}
 use Rattle.reference_machine.specs.Laws.{IsWithinLimits, KeepsLimits}
 use Rattle.bench_model.specs.Files.{File}
@@ -50,13 +53,13 @@ unit_board f b u rest (Close end) = refl
 after_board : (f : Formats) (b : BootState) (left : List BootTask)
     → (after f b left).machine.board ≡ b.machine.board
 after_board f b [] = refl
-after_board f b (Settles kind end ∷ rest) =
+after_board f b (Commits (Settles kind end) ∷ rest) =
     settled_board b.machine end (find is_open b.machine.list)
-after_board f b (Unstages pair ∷ rest) = refl
-after_board f b (Does u ∷ rest) = unit_board f b u rest (course_of f b.machine u u.kind)
-after_board f b (Prunes ∷ rest) = refl
+after_board f b (Commits (Unstages pair) ∷ rest) = refl
+after_board f b (Commits (Does u) ∷ rest) = unit_board f b u rest (course_of f b.machine u u.kind)
+after_board f b (Commits Prunes ∷ rest) = refl
 after_board f b (Removes serial ∷ rest) = refl
-after_board f b (Clears ∷ rest) = refl
+after_board f b (Commits Clears ∷ rest) = refl
 
 steps_board : (f : Formats) (n : ℕ) (b : BootState)
     → (after_steps f n b).machine.board ≡ b.machine.board
@@ -91,12 +94,13 @@ unit_weighs f b u rest (Close end) = omega arith
 after_weighs : (f : Formats) (b : BootState) (left : List BootTask) → b.left ≡ left
     → (after f b left).report.steps + weight (after f b left).left ≤ b.report.steps + weight left
 after_weighs f b [] e = let h : weight b.left ≡ 0 = ap weight e in omega arith
-after_weighs f b (Settles kind end ∷ rest) e = omega arith
-after_weighs f b (Unstages pair ∷ rest) e = omega arith
-after_weighs f b (Does u ∷ rest) e = unit_weighs f b u rest (course_of f b.machine u u.kind)
-after_weighs f b (Prunes ∷ rest) e = omega arith
+after_weighs f b (Commits (Settles kind end) ∷ rest) e = omega arith
+after_weighs f b (Commits (Unstages pair) ∷ rest) e = omega arith
+after_weighs f b (Commits (Does u) ∷ rest) e =
+    unit_weighs f b u rest (course_of f b.machine u u.kind)
+after_weighs f b (Commits Prunes ∷ rest) e = omega arith
 after_weighs f b (Removes serial ∷ rest) e = omega arith
-after_weighs f b (Clears ∷ rest) e = omega arith
+after_weighs f b (Commits Clears ∷ rest) e = omega arith
 
 steps_weigh : (f : Formats) (n : ℕ) (b : BootState)
     → (after_steps f n b).report.steps + weight (after_steps f n b).left
@@ -135,15 +139,15 @@ targets_few h board few =
     length-enumerate_from 0 board.devices in
     omega arith
 
-item_few : (board : BoardValue) (n : ℕ) (guid : Guid) (p : ℕ × Item) → length board.devices ≤ 16
-    → length (item_pieces board n guid p) ≤ 16
-item_few board n guid (k, item) few =
-    by_targets (targets item.head board) refl (targets_few item.head board few)
-  where
-    by_targets : (ts : List ℕ) → targets item.head board ≡ ts → length ts ≤ 16
-        → length (item_pieces board n guid (k, item)) ≤ 16
-    by_targets [] e le = rw e (omega arith)
-    by_targets (t ∷ ts) e le = rw (e, length-map) le
+tries_few : (unit : Kind → ℕ → BootUnit) (ts : List ℕ) → length ts ≤ 16
+    → length (tries_on unit ts) ≤ 16
+tries_few unit [] few = omega arith
+tries_few unit (t ∷ ts) few = rw (length-map (t ∷ ts) (unit Try)) few
+
+item_few : (board : BoardValue) (d : Delivery) (n : ℕ) (guid : Guid) (p : ℕ × Item)
+    → length board.devices ≤ 16 → length (item_units board d n guid p) ≤ 16
+item_few board d n guid p few =
+    tries_few (item_unit d n guid p) (targets p.1.head board) (targets_few p.1.head board few)
 
 not_first : (a b : Bool) → (a || b) ≡ false → b ≡ false
 not_first true b h = cc
@@ -152,51 +156,53 @@ not_first false b h = h
 below_test : (limit n : ℕ) → nat_lt limit n ≡ false → n ≤ limit
 below_test limit n h = grind (arith, nat_tests)
 
-capsule_few : (board : BoardValue) (p : ℕ × Capsule) → length board.devices ≤ 16
-    → length (capsule_pieces board p) ≤ 256
-capsule_few board (n, c) few = by_test (is_passed_over c) refl
+capsule_few : (board : BoardValue) (d : Delivery) (p : ℕ × Capsule) → length board.devices ≤ 16
+    → length (capsule_units board d p) ≤ 256
+capsule_few board d (n, c) few = by_test (is_passed_over c) refl
   where
-    by_test : (b : Bool) → is_passed_over c ≡ b → length (capsule_pieces board (n, c)) ≤ 256
+    by_test : (b : Bool) → is_passed_over c ≡ b → length (capsule_units board d (n, c)) ≤ 256
     by_test true e = rw e (omega arith)
     by_test false e =
         let items : length c.items ≤ 16 =
         below_test 16 (length c.items) (not_first _ (nat_lt 16 (length c.items)) e) in
         let all : length (enumerate_from 0 c.items) ≡ length c.items =
         length-enumerate_from 0 c.items in
-        let most : length (flat_map (item_pieces board n c.guid) (enumerate_from 0 c.items))
+        let most : length (flat_map (item_units board d n c.guid) (enumerate_from 0 c.items))
         ≤ 16 * length (enumerate_from 0 c.items) =
-        few_each (item_pieces board n c.guid) 16 (λ p. item_few board n c.guid p few)
+        few_each (item_units board d n c.guid) 16 (λ p. item_few board d n c.guid p few)
         (enumerate_from 0 c.items) in
-        let sum : length (flat_map (item_pieces board n c.guid) (enumerate_from 0 c.items)) ≤ 256 =
+        let sum : length (flat_map (item_units board d n c.guid) (enumerate_from 0 c.items)) ≤ 256 =
         omega arith in
         rw e sum
 
 module _ (f : Formats) (limits : KeepsLimits f) where
-  pieces_few : (board : BoardValue) (bytes : Option (List ℕ)) → length board.devices ≤ 16
-      → length (pieces board (option_and_then f.capsules bytes)) ≤ 2048
-  pieces_few board None few = omega arith
-  pieces_few board (Some b) few = by_found (f.capsules b) refl
+  decoded_few : (d : Delivery) (board : BoardValue) (bytes : Option (List ℕ))
+      → length board.devices ≤ 16
+      → length (decoded_units board d (option_and_then f.capsules bytes)) ≤ 2048
+  decoded_few d board None few = omega arith
+  decoded_few d board (Some b) few = by_found (f.capsules b) refl
     where
-      by_found : (o : Option (List Capsule)) → f.capsules b ≡ o → length (pieces board o) ≤ 2048
+      by_found : (o : Option (List Capsule)) → f.capsules b ≡ o
+          → length (decoded_units board d o) ≤ 2048
       by_found None e = omega arith
       by_found (Some found) e =
           let most : length found ≤ 8 = limits.capsules b found e in
           let all : length (enumerate_from 0 found) ≡ length found =
           length-enumerate_from 0 found in
-          let sum : length (flat_map (capsule_pieces board) (enumerate_from 0 found))
+          let sum : length (flat_map (capsule_units board d) (enumerate_from 0 found))
           ≤ 256 * length (enumerate_from 0 found) =
-          few_each (capsule_pieces board) 256 (λ p. capsule_few board p few)
+          few_each (capsule_units board d) 256 (λ p. capsule_few board d p few)
           (enumerate_from 0 found) in
           omega arith
 
   units_few : (d : Delivery) (board : BoardValue) → length board.devices ≤ 16
       → length (units f d board) ≤ 2048
   units_few d board few =
-      let ps : List Piece = pieces board (option_and_then f.capsules d.bytes) in
-      let most : length ps ≤ 2048 = pieces_few board d.bytes few in
-      let all : length (enumerate_from 0 ps) ≡ length ps = length-enumerate_from 0 ps in
-      let same : length (units f d board) ≡ length (enumerate_from 0 ps) =
-      length-map (enumerate_from 0 ps) (unit_of d) in
+      let us : List BootUnit = decoded_units board d (option_and_then f.capsules d.bytes) in
+      let most : length us ≤ 2048 = decoded_few d board d.bytes few in
+      let all : length (enumerate_from 0 us) ≡ length us = length-enumerate_from 0 us in
+      let same : length (units f d board) ≡ length (enumerate_from 0 us) =
+      length-map (enumerate_from 0 us) numbered in
       omega arith
 
   staged_few : (m : Machine) → length m.board.devices ≤ 16 → length m.staged ≤ 8
@@ -205,7 +211,7 @@ module _ (f : Formats) (limits : KeepsLimits f) where
       let each : (p : StagedPair) → length (pair_tasks f m p) ≤ 2049 = λ p.
       let us : List BootUnit = units f (memory_delivery f m p) m.board in
       let most : length us ≤ 2048 = units_few (memory_delivery f m p) m.board few in
-      let same : length (map Does us) ≡ length us = length-map us Does in
+      let same : length (unit_tasks us) ≡ length us = length-map us (λ u. Commits (Does u)) in
       omega arith in
       let sum : length (staged_tasks f m) ≤ 2049 * length (staged_in_order m) =
       few_each (pair_tasks f m) 2049 each (staged_in_order m) in
@@ -221,15 +227,15 @@ module _ (f : Formats) (limits : KeepsLimits f) where
       let most : length us ≤ 2048 = units_few (file_delivery x) m.board few in
       let fewer : length left ≡ length us - spent m.list x.serial =
       length-drop (spent m.list x.serial) us in
-      let same : length (map Does left) ≡ length left = length-map left Does in
-      let more : length (map Does left ++ Removes x.serial ∷ []) ≡ length (map Does left) + 1 =
-      length-append (map Does left) (Removes x.serial ∷ []) in
+      let same : length (unit_tasks left) ≡ length left = length-map left (λ u. Commits (Does u)) in
+      let more : length (unit_tasks left ++ Removes x.serial ∷ []) ≡ length (unit_tasks left) + 1 =
+      length-append (unit_tasks left) (Removes x.serial ∷ []) in
       omega arith
 
   prune_few : (m : Machine) → length (prune_tasks m) ≤ 1
   prune_few m = by_test _
     where
-      by_test : (t : Bool) → length (cond t (Prunes ∷ []) []) ≤ 1
+      by_test : (t : Bool) → length (cond t (Commits Prunes ∷ []) []) ≤ 1
       by_test true = omega arith
       by_test false = omega arith
 
@@ -246,17 +252,18 @@ module _ (f : Formats) (limits : KeepsLimits f) where
       all : length (files_in_order m) ≡ length m.files
       all = ordered_length (λ a b. is_taken_before a.name b.name) m.files
 
-      all_of_it : length (prune_tasks m ++ works ++ Clears ∷ [])
+      all_of_it : length (prune_tasks m ++ works ++ Commits Clears ∷ [])
           ≡ length (prune_tasks m) + length works + 1
       all_of_it =
-          let a : length ((prune_tasks m ++ works) ++ Clears ∷ [])
+          let a : length ((prune_tasks m ++ works) ++ Commits Clears ∷ [])
           ≡ length (prune_tasks m ++ works) + 1 =
-          length-append (prune_tasks m ++ works) (Clears ∷ []) in
+          length-append (prune_tasks m ++ works) (Commits Clears ∷ []) in
           let b : length (prune_tasks m ++ works) ≡ length (prune_tasks m) + length works =
           length-append (prune_tasks m) works in
           omega arith
 
-      by_bit : (t : Bool) → length (cond t (prune_tasks m ++ works ++ Clears ∷ []) []) ≤ 131138
+      by_bit : (t : Bool)
+          → length (cond t (prune_tasks m ++ works ++ Commits Clears ∷ []) []) ≤ 131138
       by_bit true = let s = sum in let a = all in let w =
           all_of_it in let p : length (prune_tasks m) ≤ 1 = prune_few m in omega arith
       by_bit false = omega arith

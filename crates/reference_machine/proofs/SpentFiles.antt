@@ -11,7 +11,8 @@ use Rattle.reference_machine.specs.Boots.{BootTask, BootState, Course, after, af
 use Rattle.reference_machine.specs.Boots.{after_steps, boot_start, boot_at, boot_tasks, tasks_with}
 use Rattle.reference_machine.specs.Boots.{staged_tasks, folder_tasks, is_file, progress_with}
 use Rattle.reference_machine.specs.Boots.{course_of, element_of, settled, settled_with, closed_with}
-use Rattle.reference_machine.specs.Boots.BootTask.{Settles, Unstages, Does, Prunes, Removes, Clears}
+use Rattle.reference_machine.specs.Boots.BootTask.{Commits, Removes}
+use Rattle.reference_machine.specs.Boots.BootBatch.{Settles, Unstages, Does, Prunes, Clears}
 use Rattle.reference_machine.specs.Boots.Course.{Claim, Close}
 use Rattle.reference_machine.specs.Deliveries.{BootUnit}
 use Rattle.reference_machine.specs.Events.{with_file}
@@ -61,7 +62,7 @@ unit_given last_staged last_file serials key below (inr h) =
     inr (h.0, has_all (λ s. s ≤ last_file) serials key.ticket.serial below h.1)
 
 given_more : (serials : List ℕ) (m : Machine) (u : BootUnit) (rest : List BootTask) (e : Element)
-    → e.key ≡ u.key → Filed serials m (Does u ∷ rest)
+    → e.key ≡ u.key → Filed serials m (Commits (Does u) ∷ rest)
     → AllByRecursion (Given m.last_staged m.last_file) (keys_of (m.list ++ e ∷ []))
 given_more serials m u rest e is r =
     subst (AllByRecursion (Given m.last_staged m.last_file)) (sym (keys_append m.list (e ∷ [])))
@@ -70,7 +71,7 @@ given_more serials m u rest e is r =
     (unit_given m.last_staged m.last_file serials u.key r.below r.known.0)))
 
 unit_filed : (f : Formats) (serials : List ℕ) (b : BootState) (u : BootUnit) (rest : List BootTask)
-    (c : Course) → Filed serials b.machine (Does u ∷ rest)
+    (c : Course) → Filed serials b.machine (Commits (Does u) ∷ rest)
     → Filed serials (after_unit f b u rest c).machine (after_unit f b u rest c).left
 unit_filed f serials b u rest Claim r =
     let m : Machine = b.machine in
@@ -143,8 +144,8 @@ after_filed : (f : Formats) (serials : List ℕ) (b : BootState) (left : List Bo
     → b.left ≡ left → Going b.machine left → Filed serials b.machine left
     → Filed serials (after f b left).machine (after f b left).left
 after_filed f serials b [] e g r = subst (Filed serials b.machine) (sym e) r
-after_filed f serials b (Settles kind end ∷ rest) e (inl g) r = absurd g.1
-after_filed f serials b (Settles kind end ∷ rest) e (inr g) r =
+after_filed f serials b (Commits (Settles kind end) ∷ rest) e (inl g) r = absurd g.1
+after_filed f serials b (Commits (Settles kind end) ∷ rest) e (inr g) r =
     settle_filed serials b.machine end rest g.0
     (record {
       spends = r.spends;
@@ -153,16 +154,16 @@ after_filed f serials b (Settles kind end ∷ rest) e (inr g) r =
       known = r.known;
       empties = r.empties;
     })
-after_filed f serials b (Unstages p ∷ rest) e g r = record {
+after_filed f serials b (Commits (Unstages p) ∷ rest) e g r = record {
   spends = r.spends;
   given = r.given;
   below = r.below;
   known = r.known;
   empties = r.empties;
 }
-after_filed f serials b (Does u ∷ rest) e g r =
+after_filed f serials b (Commits (Does u) ∷ rest) e g r =
     unit_filed f serials b u rest (course_of f b.machine u u.kind) r
-after_filed f serials b (Prunes ∷ rest) e g r = record {
+after_filed f serials b (Commits Prunes ∷ rest) e g r = record {
   spends = all_both (λ (x : File). is_file b.machine.files x.serial ≡ true)
       (λ (x : File). IsKept b.machine.list b.machine.in_progress x.serial)
       (λ (x : File). IsKept b.machine.list
@@ -182,7 +183,7 @@ after_filed f serials b (Removes serial ∷ rest) e g r = record {
   known = r.known;
   empties = r.empties;
 }
-after_filed f serials b (Clears ∷ rest) e g r = record {
+after_filed f serials b (Commits Clears ∷ rest) e g r = record {
   spends = no_files (λ (x : File). IsKept b.machine.list [] x.serial) b.machine.files r.empties.0;
   given = r.given;
   below = r.below;

@@ -25,14 +25,18 @@ use Rattle.reference_machine.specs.Spent.{Standing, Element, is_open, is_closed,
 use Rattle.reference_machine.specs.Spent.Standing.{Open, Closed}
 use Rattle.reference_machine.specs.Verdicts.{refusal}
 
+-- a batch of the store that a boot commits
+pub data BootBatch : Type 0 where
+  Settles : (kind : Kind) → (end : End) → BootBatch  -- the open element is closed with this end
+  Unstages : (pair : StagedPair) → BootBatch  -- a staged delivery is taken out
+  Does : (unit : BootUnit) → BootBatch  -- a unit is closed, or claimed and then settled
+  Prunes : BootBatch  -- the progress of files that are gone is dropped
+  Clears : BootBatch  -- the platform has taken the files that it was asked for
+
 -- a piece of the work of a boot
 pub data BootTask : Type 0 where
-  Settles : (kind : Kind) → (end : End) → BootTask  -- the open element is closed with this end
-  Unstages : (pair : StagedPair) → BootTask  -- a staged delivery is taken out
-  Does : (unit : BootUnit) → BootTask  -- a unit is closed, or claimed and then settled
-  Prunes : BootTask  -- the progress of files that are gone is dropped
+  Commits : (batch : BootBatch) → BootTask  -- a batch of the store
   Removes : (serial : ℕ) → BootTask  -- a file is taken out of the folder
-  Clears : BootTask  -- the platform has taken the files that it was asked for
 
 -- a boot under way: the machine, the work that is left, and the report so far
 pub record BootState : Type 0 where
@@ -138,7 +142,7 @@ next_line m kind e = line_of m.board kind (count_by is_closed m.list) e
 abbrev pub after_unit : Formats → BootState → BootUnit → List BootTask → Course → BootState
 after_unit f b u rest Claim = record {
   machine = with_claim b.machine (element_of f u Open);
-  left = Settles Try Sealed ∷ rest;
+  left = Commits (Settles Try Sealed) ∷ rest;
   report = one_step b.report;
 }
 after_unit f b u rest (Close end) = record {
@@ -154,17 +158,16 @@ after_unit f b u rest (Close end) = record {
 abbrev pub is_file : List File → ℕ → Bool
 is_file files serial = list_any (λ x. x.serial == serial) files
 
--- the next step of a boot and the machine after it; a boot that has nothing left stays as it is
-abbrev pub after : Formats → BootState → List BootTask → BootState
-after f b [] = b
-after f b (Settles kind end ∷ rest) = record {
+-- the boot after a batch, with the rest of its work
+abbrev pub after_batch : Formats → BootState → BootBatch → List BootTask → BootState
+after_batch f b (Settles kind end) rest = record {
   machine = settled b.machine end;
   left = rest;
   report = with_lines b.report
       (map (λ e. next_line b.machine kind (closed_with end b.machine.now e))
       (filter is_open b.machine.list));
 }
-after f b (Unstages p ∷ rest) = record {
+after_batch f b (Unstages p) rest = record {
   machine = record b.machine {
     staged = filter (λ q. not (q.serial == p.serial)) b.machine.staged;
     batches = b.machine.batches + 1;
@@ -175,8 +178,8 @@ after f b (Unstages p ∷ rest) = record {
     unstaged = b.report.unstaged ++ p.serial ∷ [];
   };
 }
-after f b (Does u ∷ rest) = after_unit f b u rest (course_of f b.machine u u.kind)
-after f b (Prunes ∷ rest) = record {
+after_batch f b (Does u) rest = after_unit f b u rest (course_of f b.machine u u.kind)
+after_batch f b Prunes rest = record {
   machine = record b.machine {
     in_progress = filter (is_file b.machine.files) b.machine.in_progress;
     batches = b.machine.batches + 1;
@@ -184,15 +187,7 @@ after f b (Prunes ∷ rest) = record {
   left = rest;
   report = one_step b.report;
 }
-after f b (Removes serial ∷ rest) = record {
-  machine = record b.machine { files = filter (λ x. not (x.serial == serial)) b.machine.files };
-  left = rest;
-  report = record b.report {
-    steps = b.report.steps + 1;
-    removed = b.report.removed ++ serial ∷ [];
-  };
-}
-after f b (Clears ∷ rest) = record {
+after_batch f b Clears rest = record {
   machine = record b.machine {
     is_signalled = false;
     in_progress = [];
@@ -201,6 +196,23 @@ after f b (Clears ∷ rest) = record {
   left = rest;
   report = one_step b.report;
 }
+
+-- the boot after a file is taken out of the folder
+abbrev pub after_removal : BootState → ℕ → List BootTask → BootState
+after_removal b serial rest = record {
+  machine = record b.machine { files = filter (λ x. not (x.serial == serial)) b.machine.files };
+  left = rest;
+  report = record b.report {
+    steps = b.report.steps + 1;
+    removed = b.report.removed ++ serial ∷ [];
+  };
+}
+
+-- the next step of a boot and the machine after it; a boot that has nothing left stays as it is
+abbrev pub after : Formats → BootState → List BootTask → BootState
+after f b [] = b
+after f b (Commits batch ∷ rest) = after_batch f b batch rest
+after f b (Removes serial ∷ rest) = after_removal b serial rest
 
 -- the boot after its next step
 abbrev pub next : Formats → BootState → BootState
@@ -232,9 +244,13 @@ staged_in_order m = in_order (λ a b. nat_lt a.serial b.serial) m.staged
 abbrev pub files_in_order : Machine → List File
 files_in_order m = in_order (λ a b. is_taken_before a.name b.name) m.files
 
+-- the work on units: each is done
+abbrev pub unit_tasks : List BootUnit → List BootTask
+unit_tasks us = map (λ u. Commits (Does u)) us
+
 -- the work on a staged delivery: it is taken out, and then its units are done
 abbrev pub pair_tasks : Formats → Machine → StagedPair → List BootTask
-pair_tasks f m p = Unstages p ∷ map Does (units f (memory_delivery f m p) m.board)
+pair_tasks f m p = Commits (Unstages p) ∷ unit_tasks (units f (memory_delivery f m p) m.board)
 
 -- the work on all staged deliveries
 abbrev pub staged_tasks : Formats → Machine → List BootTask
@@ -243,25 +259,26 @@ staged_tasks f m = flat_map (pair_tasks f m) (staged_in_order m)
 -- the work on a file: its units that are not spent yet are done, and then it is removed
 abbrev pub file_tasks : Formats → Machine → File → List BootTask
 file_tasks f m x =
-    map Does (drop (spent m.list x.serial) (units f (file_delivery x) m.board))
+    unit_tasks (drop (spent m.list x.serial) (units f (file_delivery x) m.board))
     ++ Removes x.serial ∷ []
 
 -- progress is dropped where it is of a file that is gone
 abbrev pub prune_tasks : Machine → List BootTask
-prune_tasks m = if list_any (λ s. not (is_file m.files s)) m.in_progress then Prunes ∷ [] else []
+prune_tasks m =
+    if list_any (λ s. not (is_file m.files s)) m.in_progress then Commits Prunes ∷ [] else []
 
 -- the work on the folder, where the platform was asked for it
 abbrev pub folder_tasks : Formats → Machine → List BootTask
 folder_tasks f m =
     if m.is_signalled
-    then prune_tasks m ++ flat_map (file_tasks f m) (files_in_order m) ++ Clears ∷ []
+    then prune_tasks m ++ flat_map (file_tasks f m) (files_in_order m) ++ Commits Clears ∷ []
     else []
 
 -- the work of a boot that finds this element open, or none
 abbrev pub tasks_with : Formats → Machine → End → Option Element → List BootTask
 tasks_with f m h None = staged_tasks f m ++ folder_tasks f m
 tasks_with f m h (Some e) =
-    Settles Heal h ∷ staged_tasks f (settled m h) ++ folder_tasks f (settled m h)
+    Commits (Settles Heal h) ∷ staged_tasks f (settled m h) ++ folder_tasks f (settled m h)
 
 -- the work of a boot. An element that an earlier boot left open is settled first, by what the
 -- device holds (h).

@@ -23,7 +23,7 @@ pub record Delivery : Type 0 where
   pub name : List ℕ
   pub bytes : Option (List ℕ)
 
--- what a unit is made of. Kind is Try, Skip, NoTarget or Bad; a unit without an item has an empty
+-- a unit: what it is of, and its update image. A unit without an item has the head of zeros and no
 -- image.
 pub record BootUnit : Type 0 where
   pub kind : Kind
@@ -65,89 +65,62 @@ is_target h d = is_same_guid h.type_id d.type_id && h.index == d.index
 abbrev pub targets : ItemHead → BoardValue → List ℕ
 targets h board = map (λ p. p.0) (filter (λ p. is_target h p.1) (enumerate_from 0 board.devices))
 
--- a unit before its delivery and its number are known: capsule and item that it is of, which are 0
--- where it has none, and its device, 255 where it has none
-pub record Piece : Type 0 where
-  pub kind : Kind
-  pub capsule_number : ℕ
-  pub item_number : ℕ
-  pub device : ℕ
-  pub capsule : Guid
-  pub head : ItemHead
-  pub image : List ℕ
+-- the key of a unit of a capsule, an item and a device of a delivery, whose number is not given yet
+-- and stands as 0. What has no item has item 0, and what has no device has device 255.
+abbrev pub unnumbered_key : Delivery → ℕ → ℕ → ℕ → UnitKey
+unnumbered_key d capsule item device = record {
+  ticket = record { route = d.route; capsule = capsule; item = item; serial = d.serial };
+  unit = 0;
+  device = device;
+  name = d.name;
+}
 
--- the units of an item: one try for each target, or that it has none
-abbrev pub item_pieces : BoardValue → ℕ → Guid → ℕ × Item → List Piece
-item_pieces board n guid (k, item) = pieces_on (targets item.head board)
-  where
-    piece : Kind → ℕ → Piece
-    piece kind device = record {
-      kind = kind;
-      capsule_number = n;
-      item_number = k;
-      device = device;
-      capsule = guid;
-      head = item.head;
-      image = item.image;
-    }
+-- a unit of an item of a capsule, not numbered yet
+abbrev pub item_unit : Delivery → ℕ → Guid → ℕ × Item → Kind → ℕ → BootUnit
+item_unit d n guid (k, item) kind device = record {
+  kind = kind;
+  key = unnumbered_key d n k device;
+  capsule = guid;
+  head = item.head;
+  image = item.image;
+}
 
-    pieces_on : List ℕ → List Piece
-    pieces_on [] = piece NoTarget 255 ∷ []
-    pieces_on (t ∷ ts) = map (piece Try) (t ∷ ts)
+-- one try for each target, or that there is none
+abbrev pub tries_on : (Kind → ℕ → BootUnit) → List ℕ → List BootUnit
+tries_on unit [] = unit NoTarget 255 ∷ []
+tries_on unit (t ∷ ts) = map (unit Try) (t ∷ ts)
 
--- the units of a capsule: one skip, or those of its items
-abbrev pub capsule_pieces : BoardValue → ℕ × Capsule → List Piece
-capsule_pieces board (n, c) =
-    if is_passed_over c
-    then record {
-      kind = Skip;
-      capsule_number = n;
-      item_number = 0;
-      device = 255;
-      capsule = c.guid;
-      head = no_head;
-      image = [];
-    } ∷ []
-    else flat_map (item_pieces board n c.guid) (enumerate_from 0 c.items)
+-- the units of an item
+abbrev pub item_units : BoardValue → Delivery → ℕ → Guid → ℕ × Item → List BootUnit
+item_units board d n guid p = tries_on (item_unit d n guid p) (targets p.1.head board)
 
--- the one unit of a delivery whose bytes are refused
-abbrev pub bad_piece : Piece
-bad_piece = record {
-  kind = Bad;
-  capsule_number = 0;
-  item_number = 0;
-  device = 255;
-  capsule = no_guid;
+-- a unit of no item
+abbrev pub bare_unit : Kind → UnitKey → Guid → BootUnit
+bare_unit kind key guid = record {
+  kind = kind;
+  key = key;
+  capsule = guid;
   head = no_head;
   image = [];
 }
 
--- the pieces of a delivery, by what its bytes decode to
-abbrev pub pieces : BoardValue → Option (List Capsule) → List Piece
-pieces board None = bad_piece ∷ []
-pieces board (Some capsules) = flat_map (capsule_pieces board) (enumerate_from 0 capsules)
+-- the units of a capsule: one skip, or those of its items
+abbrev pub capsule_units : BoardValue → Delivery → ℕ × Capsule → List BootUnit
+capsule_units board d (n, c) =
+    if is_passed_over c then bare_unit Skip (unnumbered_key d n 0 255) c.guid ∷ []
+    else flat_map (item_units board d n c.guid) (enumerate_from 0 c.items)
 
--- a unit of a delivery, with its number in it
-abbrev pub unit_of : Delivery → ℕ × Piece → BootUnit
-unit_of d (n, p) = record {
-  kind = p.kind;
-  key = record {
-    ticket = record {
-      route = d.route;
-      capsule = p.capsule_number;
-      item = p.item_number;
-      serial = d.serial;
-    };
-    unit = n;
-    device = p.device;
-    name = d.name;
-  };
-  capsule = p.capsule;
-  head = p.head;
-  image = p.image;
-}
+-- the units of what the bytes of a delivery decode to, not numbered yet: one where they are refused
+abbrev pub decoded_units : BoardValue → Delivery → Option (List Capsule) → List BootUnit
+decoded_units board d None = bare_unit Bad (unnumbered_key d 0 0 255) no_guid ∷ []
+decoded_units board d (Some capsules) =
+    flat_map (capsule_units board d) (enumerate_from 0 capsules)
 
--- the units of a delivery, in order
+-- a unit with its number in its delivery
+abbrev pub numbered : ℕ × BootUnit → BootUnit
+numbered (n, u) = record u { key = record u.key { unit = n } }
+
+-- the units of a delivery, in order and numbered from 0
 abbrev pub units : Formats → Delivery → BoardValue → List BootUnit
 units f d board =
-    map (unit_of d) (enumerate_from 0 (pieces board (option_and_then f.capsules d.bytes)))
+    map numbered (enumerate_from 0 (decoded_units board d (option_and_then f.capsules d.bytes)))

@@ -2,16 +2,15 @@
 -- platform on which nothing fails; the others are those after a fault, and those that only the
 -- outside decides.
 use Rattle.std.specs.Prelude.{ℕ, Bool, true, false, ◌+◌, ◌-◌, ◌/◌, ◌%◌, ◌^◌, ◌==◌, ◌&&◌, ◌||◌, not}
-use Rattle.std.specs.Prelude.{nat_lt, nat_le, ◌≡◌, ◌⊎◌, List, [], ◌∷◌, ◌++◌, length, map, filter}
+use Rattle.std.specs.Prelude.{nat_lt, nat_le, ◌≡◌, ◌⊎◌, List, [], ◌∷◌, ◌++◌, length, map}
 use Rattle.std.specs.Prelude.{flat_map, sum_by, Option, None, Some, Result, Ok, Err, if◌then◌else◌}
-use Rattle.std.specs.List.{list_any}
-use Rattle.cu_base.specs.declared.time.EfiTime.{EfiTime}
 use Rattle.fmp_headers.specs.declared.capsule.CapsuleHeader.{CapsuleHeader}
 use Rattle.fmp_headers.specs.declared.faults.HeaderFault.{HeaderFault}
 use Rattle.fmp_headers.specs.CapsuleHeader.{capsule_header}
 use Rattle.reference_machine.specs.declared.event.Event.{Event}
-use Rattle.reference_machine.specs.declared.event.Event.TheVariants as events
-use Rattle.bench_model.specs.declared.outside_limits.TheConstants.{MAX_FILES, MAX_FOLDER_BYTES}
+use Rattle.reference_machine.specs.declared.event.Event.TheVariants.{Time, Drop, Signal, Lay, Poke}
+use Rattle.reference_machine.specs.declared.event.Event.TheVariants.{Stage, Boot, Arm, Fail, Reset}
+use Rattle.reference_machine.specs.declared.event.Event.TheVariants.{Show}
 use Rattle.reference_machine.specs.declared.limits.TheConstants.{MAX_STAGED}
 use Rattle.bench_model.specs.declared.outside_limits.TheConstants.{MAX_SEGMENTS}
 use Rattle.bench_model.specs.declared.outside_limits.TheConstants.{MAX_MEMORY_BYTES}
@@ -21,9 +20,8 @@ use Rattle.reference_machine.specs.declared.unit.End.{End}
 use Rattle.reference_machine.specs.declared.unit.End.TheVariants.{Sealed, Kept, Lost}
 use Rattle.reference_machine.specs.Boots.{BootState, boot_of, files_in_order, staged_in_order}
 use Rattle.reference_machine.specs.Formats.{Formats}
-use Rattle.bench_model.specs.Files.{File}
-use Rattle.reference_machine.specs.Machine.{Machine}
-use Rattle.bench_model.specs.Files.{is_same_name}
+use Rattle.bench_model.specs.Files.{is_folder_full, with_put}
+use Rattle.reference_machine.specs.Machine.{Machine, folder_of, with_folder}
 use Rattle.reference_machine.specs.Report.{ReportValue, nothing_done}
 use Rattle.reference_machine.specs.Results.{esrt_of, results_of, last_result}
 use Rattle.reference_machine.specs.Stops.{StopCause, IsHeldEnd, Agrees, stops}
@@ -33,32 +31,9 @@ use Rattle.reference_machine.specs.TraceValues.AnswerValue.{Done, Serial, FlashF
 use Rattle.reference_machine.specs.TraceValues.AnswerValue.{Full, Wraps, Invalid, Unsupported}
 use Rattle.reference_machine.specs.TraceValues.AnswerValue.{Resources, Booted, Shown}
 
--- an event with the bytes of its input
-pub data Act : Type 0 where
-  Time : (moment : EfiTime) → Act
-  Drop : (file bytes : List ℕ) → Act
-  Signal : Act
-  Lay : (address : ℕ) → (bytes : List ℕ) → Act
-  Stage : (address : ℕ) → Act
-  Boot : Act
-  Arm : Act  -- of a power cut to come; which one is the flash's business
-  Fail : Act  -- of a fault to come
-  Reset : (cold : Bool) → Act
-  Show : Act
-
--- an event with the bytes of the input that it names
-abbrev pub act_of : (List ℕ → List ℕ) → Event → Act
-act_of bytes_of (events.Time moment) = Time moment
-act_of bytes_of (events.Drop file input) = Drop file (bytes_of input)
-act_of bytes_of events.Signal = Signal
-act_of bytes_of (events.Lay at input) = Lay at (bytes_of input)
-act_of bytes_of (events.Poke at bytes) = Lay at bytes
-act_of bytes_of (events.Stage at) = Stage at
-act_of bytes_of events.Boot = Boot
-act_of bytes_of (events.Arm after choice) = Arm
-act_of bytes_of (events.Fail nth) = Fail
-act_of bytes_of (events.Reset cold) = Reset cold
-act_of bytes_of events.Show = Show
+-- what the inputs hold, by their names
+abbrev pub InputBytes : Type 0
+InputBytes = List ℕ → List ℕ
 
 -- what an event may tell, with the machine that it then leaves
 abbrev pub Outcome : Type 0
@@ -84,26 +59,9 @@ in_doubt m answer = record {
 abbrev pub failed : Machine → Machine
 failed m = record m { failed = true }
 
--- the machine with a file put into the folder: it replaces one of the same name, and has the next
--- serial
+-- the machine with a file put into the folder
 abbrev pub with_file : Machine → List ℕ → List ℕ → Machine
-with_file m name bytes = record m {
-  files = filter (λ x. not (is_same_name x.name name)) m.files
-      ++ record { name = name; serial = m.last_file + 1; bytes = bytes } ∷ [];
-  last_file = m.last_file + 1;
-}
-
--- how many bytes the files of other names have
-abbrev pub bytes_beside : List File → List ℕ → ℕ
-bytes_beside files name = sum_by (λ x. if is_same_name x.name name then 0 else length x.bytes) files
-
--- the folder takes no file of a new name where it is full, no file with which its bytes would pass
--- their limit, and none where no serial is left
-abbrev pub is_folder_full : Machine → List ℕ → List ℕ → Bool
-is_folder_full m name bytes =
-    nat_le MAX_FILES (length m.files) && not (list_any (λ x. is_same_name x.name name) m.files)
-    || (nat_lt MAX_FOLDER_BYTES (bytes_beside m.files name + length bytes)
-    || nat_le (2 ^ 64 - 1) m.last_file)
+with_file m name bytes = with_folder m (with_put (folder_of m) name bytes)
 
 -- bytes would pass the last address but one
 abbrev pub wraps : ℕ → List ℕ → Bool
@@ -203,24 +161,44 @@ abbrev pub stage_done : Machine → ℕ → Option AnswerValue → Outcome
 stage_done m address (Some answer) = (opened m answer, m)
 stage_done m address None = (opened m (Serial (m.last_staged + 1)), with_staged m address)
 
--- the outcome of an event on a platform on which nothing fails
-abbrev pub outcome : Formats → Machine → Act → Outcome
-outcome f m (Time moment) = (plain Done, record m { now = moment })
-outcome f m (Drop file bytes) =
-    if is_folder_full m file bytes then (plain Full, m)
+-- the outcome of a request for the capsule files
+abbrev pub requested : Machine → Outcome
+requested m = (opened m Done, signalled m)
+
+-- the outcome of bytes that are put into the folder
+abbrev pub dropped : Machine → List ℕ → List ℕ → Outcome
+dropped m file bytes =
+    if is_folder_full (folder_of m) file (length bytes) then (plain Full, m)
     else (plain (Serial (m.last_file + 1)), with_file m file bytes)
-outcome f m Signal = (opened m Done, signalled m)
-outcome f m (Lay address bytes) =
+
+-- the outcome of bytes that are laid into memory
+abbrev pub laid : Machine → ℕ → List ℕ → Outcome
+laid m address bytes =
     if wraps address bytes then (plain Wraps, m)
     else if is_memory_full m bytes then (plain Full, m)
     else (plain Done, with_segment m address bytes)
-outcome f m (Stage address) = stage_done m address (stage_refusal f m address)
-outcome f m Boot = boot_done (boot_of f m Sealed)
-outcome f m Arm = (plain Done, m)
-outcome f m Fail = (plain Done, m)
-outcome f m (Reset true) = (plain Done, cold m)
-outcome f m (Reset false) = (plain Done, warm m)
-outcome f m Show = (opened m (Shown (snapshot_of m)), m)
+
+-- the outcome of an event on a platform on which nothing fails
+abbrev pub outcome : Formats → InputBytes → Machine → Event → Outcome
+outcome f bytes_of m (Time moment) = (plain Done, record m { now = moment })
+outcome f bytes_of m (Drop file input) = dropped m file (bytes_of input)
+outcome f bytes_of m Signal = requested m
+outcome f bytes_of m (Lay address input) = laid m address (bytes_of input)
+outcome f bytes_of m (Poke address bytes) = laid m address bytes
+outcome f bytes_of m (Stage address) = stage_done m address (stage_refusal f m address)
+outcome f bytes_of m Boot = boot_done (boot_of f m Sealed)
+outcome f bytes_of m (Arm after choice) = (plain Done, m)
+outcome f bytes_of m (Fail nth) = (plain Done, m)
+outcome f bytes_of m (Reset true) = (plain Done, cold m)
+outcome f bytes_of m (Reset false) = (plain Done, warm m)
+outcome f bytes_of m Show = (opened m (Shown (snapshot_of m)), m)
+
+-- the outcomes of a file after a fault: it is put or is not, where the folder takes it
+abbrev pub drop_faults : Machine → List ℕ → List ℕ → List Outcome
+drop_faults m file bytes =
+    (plain VolumeFault, failed m)
+    ∷ (if is_folder_full (folder_of m) file (length bytes) then []
+    else (plain VolumeFault, failed (with_file m file bytes)) ∷ [])
 
 -- the outcomes of UpdateCapsule after a fault: the delivery is staged or is not, where the checks
 -- allow it
@@ -236,25 +214,24 @@ stage_faults m address None =
 -- the other outcomes of an event but those of a stopped boot. A boot before which an element is
 -- open closes it by what the device holds. A reset loses the memory after a fault, since the power
 -- may be off.
-abbrev pub other_outcomes : Formats → Machine → Act → List Outcome
-other_outcomes f m (Time moment) = []
-other_outcomes f m (Drop file bytes) =
-    (plain VolumeFault, failed m)
-    ∷ (if is_folder_full m file bytes then []
-    else (plain VolumeFault, failed (with_file m file bytes)) ∷ [])
-other_outcomes f m Signal =
+abbrev pub other_outcomes : Formats → InputBytes → Machine → Event → List Outcome
+other_outcomes f bytes_of m (Time moment) = []
+other_outcomes f bytes_of m (Drop file input) = drop_faults m file (bytes_of input)
+other_outcomes f bytes_of m Signal =
     (plain FlashFault, failed m) ∷ (opened m FlashFault, failed m)
     ∷ (in_doubt m FlashFault, failed m) ∷ (in_doubt m FlashFault, failed (signalled m)) ∷ []
-other_outcomes f m (Lay address bytes) = []
-other_outcomes f m (Stage address) = stage_faults m address (stage_refusal f m address)
-other_outcomes f m Boot =
+other_outcomes f bytes_of m (Lay address input) = []
+other_outcomes f bytes_of m (Poke address bytes) = []
+other_outcomes f bytes_of m (Stage address) = stage_faults m address (stage_refusal f m address)
+other_outcomes f bytes_of m Boot =
     (booted nothing_done ends.Flash, failed m)
     ∷ boot_done (boot_of f m Kept) ∷ boot_done (boot_of f m Lost) ∷ []
-other_outcomes f m Arm = []
-other_outcomes f m Fail = []
-other_outcomes f m (Reset true) = []
-other_outcomes f m (Reset false) = if m.failed then (plain Done, cold m) ∷ [] else []
-other_outcomes f m Show = (plain FlashFault, failed m) ∷ (opened m VolumeFault, failed m) ∷ []
+other_outcomes f bytes_of m (Arm after choice) = []
+other_outcomes f bytes_of m (Fail nth) = []
+other_outcomes f bytes_of m (Reset true) = []
+other_outcomes f bytes_of m (Reset false) = if m.failed then (plain Done, cold m) ∷ [] else []
+other_outcomes f bytes_of m Show =
+    (plain FlashFault, failed m) ∷ (opened m VolumeFault, failed m) ∷ []
 
 -- an item stands in a list
 abbrev pub IsIn : {X : Type 0} → X → List X → Type 0
@@ -283,51 +260,63 @@ pub record IsStoppedBoot (f : Formats) (m : Machine) (entry : EntryValue)
   pub is_new : new ≡ failed machine
 
 -- an event that is a boot was stopped
-abbrev pub IsStopped : Formats → Machine → Act → EntryValue → Machine → Type 0
+abbrev pub IsStopped : Formats → Machine → Event → EntryValue → Machine → Type 0
 IsStopped f m (Time moment) entry new = ⊥
-IsStopped f m (Drop file bytes) entry new = ⊥
+IsStopped f m (Drop file input) entry new = ⊥
 IsStopped f m Signal entry new = ⊥
-IsStopped f m (Lay address bytes) entry new = ⊥
+IsStopped f m (Lay address input) entry new = ⊥
+IsStopped f m (Poke address bytes) entry new = ⊥
 IsStopped f m (Stage address) entry new = ⊥
 IsStopped f m Boot entry new = IsStoppedBoot f m entry new
-IsStopped f m Arm entry new = ⊥
-IsStopped f m Fail entry new = ⊥
+IsStopped f m (Arm after choice) entry new = ⊥
+IsStopped f m (Fail nth) entry new = ⊥
 IsStopped f m (Reset cold) entry new = ⊥
 IsStopped f m Show entry new = ⊥
 
 -- the event may tell this, and then leaves this machine
-abbrev pub Step : Formats → Machine → Act → EntryValue → Machine → Type 0
-Step f m act entry new =
-    IsIn (entry, new) (outcome f m act ∷ other_outcomes f m act) ⊎ IsStopped f m act entry new
+abbrev pub Step : Formats → InputBytes → Machine → Event → EntryValue → Machine → Type 0
+Step f bytes_of m event entry new =
+    IsIn (entry, new) (outcome f bytes_of m event ∷ other_outcomes f bytes_of m event)
+    ⊎ IsStopped f m event entry new
 
--- the machines of an event that is cut off without an entry: those of a boot, and else unchanged or
--- done
-abbrev pub cut_machines : Formats → Machine → Act → List Machine
-cut_machines f m (Time moment) = m ∷ (outcome f m (Time moment)).1 ∷ []
-cut_machines f m (Drop file bytes) = m ∷ (outcome f m (Drop file bytes)).1 ∷ []
-cut_machines f m Signal = m ∷ (outcome f m Signal).1 ∷ []
-cut_machines f m (Lay address bytes) = m ∷ (outcome f m (Lay address bytes)).1 ∷ []
-cut_machines f m (Stage address) = m ∷ (outcome f m (Stage address)).1 ∷ []
-cut_machines f m Boot = flat_map (stops f m) (Sealed ∷ Kept ∷ Lost ∷ [])
-cut_machines f m Arm = m ∷ (outcome f m Arm).1 ∷ []
-cut_machines f m Fail = m ∷ (outcome f m Fail).1 ∷ []
-cut_machines f m (Reset cold) = m ∷ (outcome f m (Reset cold)).1 ∷ []
-cut_machines f m Show = m ∷ (outcome f m Show).1 ∷ []
+-- the machine before an event, and the one after it
+abbrev pub before_and_after : Formats → InputBytes → Machine → Event → List Machine
+before_and_after f bytes_of m event = m ∷ (outcome f bytes_of m event).1 ∷ []
 
--- the events may tell this, one for each, and then leave this machine
-abbrev pub Run : Formats → Machine → List Act → List EntryValue → Machine → Type 0
-Run f m [] [] new = new ≡ m
-Run f m (act ∷ acts) (entry ∷ rest) new =
-    (between : Machine) × Step f m act entry between × Run f between acts rest new
-Run f m [] (entry ∷ rest) new = ⊥
-Run f m (act ∷ acts) [] new = ⊥
+-- the machines of an event that is cut off without an entry
+abbrev pub cut_machines : Formats → InputBytes → Machine → Event → List Machine
+cut_machines f bytes_of m (Time moment) = before_and_after f bytes_of m (Time moment)
+cut_machines f bytes_of m (Drop file input) = before_and_after f bytes_of m (Drop file input)
+cut_machines f bytes_of m Signal = before_and_after f bytes_of m Signal
+cut_machines f bytes_of m (Lay address input) = before_and_after f bytes_of m (Lay address input)
+cut_machines f bytes_of m (Poke address bytes) =
+    before_and_after f bytes_of m (Poke address bytes)
+cut_machines f bytes_of m (Stage address) = before_and_after f bytes_of m (Stage address)
+cut_machines f bytes_of m Boot = flat_map (stops f m) (Sealed ∷ Kept ∷ Lost ∷ [])
+cut_machines f bytes_of m (Arm after choice) = before_and_after f bytes_of m (Arm after choice)
+cut_machines f bytes_of m (Fail nth) = before_and_after f bytes_of m (Fail nth)
+cut_machines f bytes_of m (Reset cold) = before_and_after f bytes_of m (Reset cold)
+cut_machines f bytes_of m Show = before_and_after f bytes_of m Show
 
--- the trace and the machine after all events on a platform on which nothing fails
-abbrev pub trace_of : Formats → Machine → List Act → List EntryValue
-trace_of f m [] = []
-trace_of f m (act ∷ acts) = (outcome f m act).0 ∷ trace_of f (outcome f m act).1 acts
+-- the events may tell this, one entry for each, and then leave this machine
+abbrev pub Run :
+    Formats → InputBytes → Machine → List Event → List EntryValue → Machine → Type 0
+Run f bytes_of m [] [] new = new ≡ m
+Run f bytes_of m (event ∷ events) (entry ∷ rest) new =
+    (between : Machine) × Step f bytes_of m event entry between
+    × Run f bytes_of between events rest new
+Run f bytes_of m [] (entry ∷ rest) new = ⊥
+Run f bytes_of m (event ∷ events) [] new = ⊥
+
+-- the trace of all events on a platform on which nothing fails
+abbrev pub trace_of : Formats → InputBytes → Machine → List Event → List EntryValue
+trace_of f bytes_of m [] = []
+trace_of f bytes_of m (event ∷ events) =
+    (outcome f bytes_of m event).0
+    ∷ trace_of f bytes_of (outcome f bytes_of m event).1 events
 
 -- the machine after all events on a platform on which nothing fails
-abbrev pub machine_after : Formats → Machine → List Act → Machine
-machine_after f m [] = m
-machine_after f m (act ∷ acts) = machine_after f (outcome f m act).1 acts
+abbrev pub machine_after : Formats → InputBytes → Machine → List Event → Machine
+machine_after f bytes_of m [] = m
+machine_after f bytes_of m (event ∷ events) =
+    machine_after f bytes_of (outcome f bytes_of m event).1 events

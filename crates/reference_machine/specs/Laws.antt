@@ -8,13 +8,14 @@ use Rattle.reference_machine.specs.declared.limits.TheConstants.{MAX_STAGED}
 use Rattle.bench_model.specs.declared.outside_limits.TheConstants.{MAX_FILES}
 use Rattle.bench_model.specs.declared.outside_limits.TheConstants.{MAX_SEGMENTS, MAX_MEMORY_BYTES}
 use Rattle.reference_machine.specs.declared.limits.TheConstants.{MAX_DELIVERY_CAPSULES}
+use Rattle.reference_machine.specs.declared.event.Event.{Event}
 use Rattle.reference_machine.specs.declared.trace.BootEnd.{BootEnd}
 use Rattle.reference_machine.specs.declared.trace.BootEnd.TheVariants as ends
 use Rattle.reference_machine.specs.declared.unit.End.{End}
 use Rattle.reference_machine.specs.declared.unit.UnitKey.{UnitKey}
 use Rattle.bench_model.specs.Boards.{BoardValue}
 use Rattle.reference_machine.specs.Boots.{boot_at, progress_with}
-use Rattle.reference_machine.specs.Events.{Act, Step, laid_bytes}
+use Rattle.reference_machine.specs.Events.{InputBytes, Step, laid_bytes}
 use Rattle.reference_machine.specs.Formats.{Capsule, Formats}
 use Rattle.bench_model.specs.Files.{File}
 use Rattle.reference_machine.specs.Machine.{Machine, fresh}
@@ -31,8 +32,9 @@ use Rattle.reference_machine.specs.TraceValues.AnswerValue.{Unsupported, Resourc
 -- stopped, with or without faults
 pub data IsReached (f : Formats) (board : BoardValue) : Machine → Type 0 where
   Fresh : IsReached f board (fresh board)
-  ByEvent : (m : Machine) (act : Act) (entry : EntryValue) (new : Machine) → IsReached f board m →
-      Step f m act entry new → IsReached f board new
+  ByEvent : (bytes_of : InputBytes) (m : Machine) (event : Event) (entry : EntryValue)
+      (new : Machine) → IsReached f board m → Step f bytes_of m event entry new →
+      IsReached f board new
   BySteps : (m : Machine) (h : End) (j : ℕ) → IsReached f board m → IsHeldEnd h →
       IsReached f board (boot_at f m h j).machine
 

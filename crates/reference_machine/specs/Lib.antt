@@ -4,6 +4,7 @@ pub mod Events
 pub mod Formats
 pub mod Laws
 pub mod Machine
+pub mod Moves
 pub mod Names
 pub mod Order
 pub mod Report

@@ -4,7 +4,7 @@ use Rattle.std.specs.Prelude.{ℕ, Bool, false, List, [], pos}
 use Rattle.cu_base.specs.declared.time.EfiTime.{EfiTime}
 use Rattle.reference_machine.specs.declared.snapshot.StagedPair.{StagedPair}
 use Rattle.bench_model.specs.Boards.{BoardValue}
-use Rattle.bench_model.specs.Files.{File}
+use Rattle.bench_model.specs.Files.{File, FolderValue}
 use Rattle.bench_model.specs.declared.segment.Segment.{Segment}
 use Rattle.reference_machine.specs.Spent.{Element}
 
@@ -22,6 +22,14 @@ pub record Machine : Type 0 where
   pub in_progress : List ℕ  -- the serials of the files whose progress is stored
   pub batches : ℕ  -- how many batches the store took
   pub failed : Bool  -- whether an event since the last reset answered a fault
+
+-- the machine's folder
+abbrev pub folder_of : Machine → FolderValue
+folder_of m = record { files = m.files; last_serial = m.last_file }
+
+-- the machine with another folder
+abbrev pub with_folder : Machine → FolderValue → Machine
+with_folder m folder = record m { files = folder.files; last_file = folder.last_serial }
 
 -- 2000-01-01T00:00:00, of no time zone
 abbrev pub first_moment : EfiTime

@@ -16,7 +16,6 @@ use Rattle.reference_machine.specs.declared.unit.Kind.{Kind}
 use Rattle.reference_machine.specs.declared.unit.Kind.TheVariants.{Try, Heal, Skip, NoTarget, Bad}
 use Rattle.reference_machine.specs.declared.unit.UnitLine.{UnitLine}
 use Rattle.bench_model.specs.Boards.{BoardValue}
-use Rattle.bench_model.specs.Devices.{DeviceValue}
 use Rattle.report_tables.specs.Entries.{entries_of}
 use Rattle.reference_machine.specs.Spent.{Standing, Element, is_closed, end_of, is_on, floor_of}
 use Rattle.reference_machine.specs.Spent.{version_of}

@@ -1,24 +1,27 @@
 -- Samples of what the definitions say: a board of three devices, of which two have one type, and
 -- what stands in it.
-use Rattle.std.specs.Prelude.{ℕ, Bool, false, ◌==◌, nat_lt, List, [], ◌∷◌, map, codes, find}
+use Rattle.std.specs.Prelude.{ℕ, Bool, true, false, ◌==◌, nat_lt, List, [], ◌∷◌, map, codes, find}
 use Rattle.std.specs.Prelude.{unwrap_or, Option, None, Some, option_map}
+use Rattle.std.specs.List.{range_with_len}
 use Rattle.bench_model.specs.declared.segment.Segment.{Segment}
 use Rattle.cu_base.specs.declared.guid.Guid.{Guid}
 use Rattle.bench_model.specs.Boards.{BoardValue}
 use Rattle.bench_model.specs.Devices.{DeviceValue}
 use Rattle.reference_machine.specs.declared.snapshot.CapsuleResult.{CapsuleResult}
 use Rattle.report_tables.specs.declared.esrt.EsrtEntry.{EsrtEntry}
+use Rattle.reference_machine.specs.declared.event.Event.{Event}
+use Rattle.reference_machine.specs.declared.event.Event.TheVariants.{Poke, Stage, Boot, Reset}
 use Rattle.reference_machine.specs.declared.unit.End.{End}
 use Rattle.reference_machine.specs.declared.unit.End.TheVariants.{Refused, Sealed, Lost}
 use Rattle.reference_machine.specs.declared.unit.Kind.{Kind}
 use Rattle.reference_machine.specs.declared.unit.Kind.TheVariants.{Try, Skip, NoTarget}
 use Rattle.reference_machine.specs.declared.unit.UnitKey.{UnitKey}
-use Rattle.reference_machine.specs.Boots.{boot_of}
+use Rattle.reference_machine.specs.Boots.{boot_at, boot_of}
 use Rattle.reference_machine.specs.Deliveries.{Delivery, fmp_guid, no_head, units}
 use Rattle.reference_machine.specs.Events.{machine_after, snapshot_of}
-use Rattle.reference_machine.specs.Events.Act.{Lay, Stage, Boot, Reset}
-use Rattle.reference_machine.specs.Formats.{Formats, ItemHead, Item, Capsule, Parts}
+use Rattle.reference_machine.specs.Formats.{Formats, ItemHead, Item, Capsule}
 use Rattle.reference_machine.specs.Machine.{Machine, first_moment, fresh}
+use Rattle.reference_machine.specs.Moves.{PlainWork, move_bound, plain_moves, work_of}
 use Rattle.reference_machine.specs.Order.{in_order}
 use Rattle.reference_machine.specs.Spent.{Element, Standing, version_of}
 use Rattle.reference_machine.specs.Spent.Standing.{Open, Closed}
@@ -277,12 +280,50 @@ header_with flag =
     8 ∷ 0 ∷ 0 ∷ 0 ∷ 0 ∷ 0 ∷ 0 ∷ 0 ∷ 0 ∷ 0 ∷ 0 ∷ 0 ∷ 0 ∷ 0 ∷ 0 ∷ 0 ∷ 28 ∷ 0 ∷ 0 ∷ 0 ∷ 0 ∷ 0 ∷ flag
     ∷ 0 ∷ 28 ∷ 0 ∷ 0 ∷ 0 ∷ []
 
--- the kinds of the units that a boot spends on a delivery that is staged before a reset
+-- a delivery is staged, and the platform boots after a reset
+abbrev pub staged_before : Bool → List Event
+staged_before cold = Poke 4096 (header_with 1) ∷ Stage 4096 ∷ Reset cold ∷ Boot ∷ []
+
+-- the machine after these events
+abbrev pub after_reset : Bool → Machine
+after_reset cold =
+    machine_after sample_formats (λ name. []) (fresh three_devices) (staged_before cold)
+
+-- the kinds of the units that the boot spends
 abbrev pub kinds_after_reset : Bool → List Kind
-kinds_after_reset cold =
-    map (λ e. e.kind)
-    (machine_after sample_formats (fresh three_devices)
-    (Lay 4096 (header_with 1) ∷ Stage 4096 ∷ Reset cold ∷ Boot ∷ [])).list
+kinds_after_reset cold = map (λ e. e.kind) (after_reset cold).list
+
+-- the moves of these events, of which none begins a generation of the store
+abbrev pub moves_after_reset : Bool → ℕ
+moves_after_reset cold =
+    plain_moves (work_of (staged_before cold) (fresh three_devices) (after_reset cold) 0)
+
+-- an open attempt on the first controller with a payload of three bytes
+abbrev pub open_attempt : Element
+open_attempt = record (attempt_on 1 8 6 [] Open) { payload = codes "abc" }
+
+-- a boot in which this attempt was claimed, with five batches and a new generation of the store
+abbrev pub one_claim : PlainWork
+one_claim = record {
+  openings = 1;
+  devices = 3;
+  batches = 5;
+  generations = 1;
+  claims = open_attempt ∷ [];
+}
+
+-- a folder of one file, of which six units are spent, none of them an attempt
+abbrev pub one_file : Machine
+one_file = record (fresh three_devices) {
+  files = record { name = codes "a.cap"; serial = 1; bytes = 0 ∷ [] } ∷ [];
+  last_file = 1;
+  is_signalled = true;
+}
+
+-- the bound on the moves of a boot after each of so many numbers of steps, from none on
+abbrev pub bounds_of : Machine → ℕ → List ℕ
+bounds_of m n =
+    map (λ j. move_bound sample_formats m (boot_at sample_formats m Sealed j)) (range_with_len 0 n)
 
 -- two files and two staged deliveries, each pair out of order
 abbrev pub waiting : Machine

@@ -1,8 +1,8 @@
 -- The list of spent units, which only grows, and what is read off it. A place of the list is the
 -- front of it up to there.
-use Rattle.std.specs.Prelude.{ℕ, Bool, true, false, ◌==◌, ◌&&◌, ◌||◌, not, List, [], ◌∷◌}
-use Rattle.std.specs.Prelude.{length, map, filter, slice_get, Option, None, Some, option_map}
-use Rattle.std.specs.Prelude.{unwrap_or, if◌then◌else◌}
+use Rattle.std.specs.Prelude.{ℕ, Bool, true, false, ◌==◌, ◌&&◌, not, List, []}
+use Rattle.std.specs.Prelude.{length, map, filter, filter_map, slice_get, Option, None, Some}
+use Rattle.std.specs.Prelude.{option_map, unwrap_or}
 use Rattle.std.specs.List.{enumerate_from, last_or}
 use Rattle.cu_base.specs.declared.guid.Guid.{Guid}
 use Rattle.cu_base.specs.declared.time.EfiTime.{EfiTime}
@@ -64,21 +64,9 @@ is_sealed_end (Some Kept) = false
 is_sealed_end (Some Lost) = false
 is_sealed_end None = false
 
--- the end is Lost
-abbrev pub is_lost_end : Option End → Bool
-is_lost_end (Some Lost) = true
-is_lost_end (Some (Refused status)) = false
-is_lost_end (Some Kept) = false
-is_lost_end (Some Sealed) = false
-is_lost_end None = false
-
 -- an element ended by Sealed
 abbrev pub is_sealed : Element → Bool
 is_sealed e = is_sealed_end (end_of e)
-
--- an element ended by Lost
-abbrev pub is_lost : Element → Bool
-is_lost e = is_lost_end (end_of e)
 
 -- an attempt may have started a SetImage: it is open, or ended by Sealed, Kept or Lost
 abbrev pub is_attempted : Standing → Bool
@@ -128,24 +116,33 @@ factory_image d = record {
   payload = [];
 }
 
--- what an element that ended by Sealed or Lost left on its device; Lost leaves no image
-abbrev pub image_left : Element → Option Image
-image_left e = if is_sealed e then Some image else None
-  where
-    image : Image
-    image = record {
-      ticket = e.key.ticket;
-      version = e.version;
-      floor = e.floor;
-      dependency = e.dependency;
-      payload = e.payload;
-    }
+-- the image that an element tries
+abbrev pub image_tried : Element → Image
+image_tried e = record {
+  ticket = e.key.ticket;
+  version = e.version;
+  floor = e.floor;
+  dependency = e.dependency;
+  payload = e.payload;
+}
 
--- the image of a device: what the last Sealed or Lost element on it left, else that of the factory
+-- what an end leaves of an image on a device: after Sealed the image, after Lost no image; any
+-- other leaves the device as it was
+abbrev pub left_by : Image → Option End → Option (Option Image)
+left_by image (Some Sealed) = Some (Some image)
+left_by image (Some Lost) = Some None
+left_by image (Some Kept) = None
+left_by image (Some (Refused status)) = None
+left_by image None = None
+
+-- what an element leaves on its device, none where it leaves it as it was
+abbrev pub image_left : Element → Option (Option Image)
+image_left e = left_by (image_tried e) (end_of e)
+
+-- the image of a device: the last that an element on it left, else that of the factory
 abbrev pub image_of : BoardValue → List Element → ℕ → Option Image
 image_of board list d =
-    unwrap_or (option_map image_left
-    (last_or None (filter (λ e. is_on d e && (is_sealed e || is_lost e)) list)))
+    unwrap_or (last_or None (filter_map image_left (filter (is_on d) list)))
     (option_map factory_image (slice_get board.devices d))
 
 -- the version of a device's image, 0 where it has none

@@ -8,8 +8,9 @@ use Rattle.reference_machine.specs.declared.unit.End.{End}
 use Rattle.reference_machine.specs.declared.unit.End.TheVariants.{Refused, Sealed, Kept, Lost}
 use Rattle.reference_machine.specs.declared.unit.Kind.{Kind}
 use Rattle.reference_machine.specs.declared.unit.Kind.TheVariants.{Try, Heal, Skip, NoTarget, Bad}
-use Rattle.reference_machine.specs.Boots.{BootTask, BootState, boot_at, boot_of}
-use Rattle.reference_machine.specs.Boots.BootTask.{Settles, Unstages, Does, Prunes, Removes, Clears}
+use Rattle.reference_machine.specs.Boots.{BootBatch, BootTask, BootState, boot_at, boot_of}
+use Rattle.reference_machine.specs.Boots.BootBatch.{Settles, Unstages, Does, Prunes, Clears}
+use Rattle.reference_machine.specs.Boots.BootTask.{Commits, Removes}
 use Rattle.reference_machine.specs.Formats.{Formats}
 use Rattle.reference_machine.specs.Machine.{Machine}
 use Rattle.reference_machine.specs.Report.{ReportValue}
@@ -41,15 +42,19 @@ is_try Skip = false
 is_try NoTarget = false
 is_try Bad = false
 
--- whether a task belongs to the folder, once nothing of a delivery by memory is open. Of
+-- whether a batch belongs to the folder, once nothing of a delivery by memory is open. Of
 -- settlements only that of a try may: the heal stands before all deliveries.
+abbrev pub is_folder_batch : BootBatch → Bool
+is_folder_batch (Settles kind end) = is_try kind
+is_folder_batch (Unstages pair) = false
+is_folder_batch (Does unit) = unit.key.ticket.route == 1
+is_folder_batch Prunes = true
+is_folder_batch Clears = true
+
+-- whether a task belongs to the folder
 abbrev pub is_folder_task : BootTask → Bool
-is_folder_task (Settles kind end) = is_try kind
-is_folder_task (Unstages pair) = false
-is_folder_task (Does unit) = unit.key.ticket.route == 1
-is_folder_task Prunes = true
+is_folder_task (Commits batch) = is_folder_batch batch
 is_folder_task (Removes serial) = true
-is_folder_task Clears = true
 
 -- a boot has come to the folder: the tasks that are left, and what is open, are of files
 abbrev pub is_in_folder : BootState → Bool
@@ -60,22 +65,14 @@ is_in_folder b =
 -- the next task is a batch of the store
 abbrev pub is_batch : List BootTask → Bool
 is_batch [] = false
+is_batch (Commits batch ∷ rest) = true
 is_batch (Removes serial ∷ rest) = false
-is_batch (Settles kind end ∷ rest) = true
-is_batch (Unstages pair ∷ rest) = true
-is_batch (Does unit ∷ rest) = true
-is_batch (Prunes ∷ rest) = true
-is_batch (Clears ∷ rest) = true
 
 -- the next task removes a file
 abbrev pub is_removal : List BootTask → Bool
 is_removal [] = false
+is_removal (Commits batch ∷ rest) = false
 is_removal (Removes serial ∷ rest) = true
-is_removal (Settles kind end ∷ rest) = false
-is_removal (Unstages pair ∷ rest) = false
-is_removal (Does unit ∷ rest) = false
-is_removal (Prunes ∷ rest) = false
-is_removal (Clears ∷ rest) = false
 
 -- the boot after the steps that a report counts
 abbrev pub told_boot : Formats → Machine → End → ReportValue → BootState

@@ -1,12 +1,12 @@
 //! What holds of the reference machine, whatever is delivered, whatever fails, and whatever the
 //! formats say. Each law is the contract of a function that does nothing.
 
-ghost use Rattle.std.specs.Prelude.{◌≡◌, ◌<◌, ◌≤◌, ◌^◌, ◌↔◌, ℕ, List, [], ◌++◌, find, length, Some};
-ghost use Rattle.std.specs.Prelude.{None, true, false, if◌then◌else◌};
+ghost use Rattle.std.specs.Prelude.{◌≡◌, ◌<◌, ◌≤◌, ◌+◌, ◌^◌, ◌↔◌, ℕ, List, [], ◌++◌, find, length};
+ghost use Rattle.std.specs.Prelude.{map, None, Some, true, false, if◌then◌else◌};
 ghost use Rattle.bench_model.specs.Boards.{BoardValue, IsBoard};
 ghost use Rattle.reference_machine.specs.Boots.{boot_at, boot_of};
 ghost use Rattle.reference_machine.specs.Deliveries.{BootUnit};
-ghost use Rattle.reference_machine.specs.Events.{Act, IsIn, Run, Step, cut_machines};
+ghost use Rattle.reference_machine.specs.Events.{InputBytes, IsIn, Run, Step, cut_machines};
 ghost use Rattle.reference_machine.specs.Events.{is_memory_full, trace_of, machine_after};
 ghost use Rattle.reference_machine.specs.Formats.{Formats, Parts};
 ghost use Rattle.reference_machine.specs.Laws.{IsReached, IsPastMemory, Grows, OpenIsLast};
@@ -15,13 +15,15 @@ ghost use Rattle.reference_machine.specs.Laws.{HaveDistinctKeys, SpentFilesHaveP
 ghost use Rattle.reference_machine.specs.Laws.{IsWithinLimits, SerialsAreGiven, KeepsLimits};
 ghost use Rattle.reference_machine.specs.Laws.{TellNoFault};
 ghost use Rattle.reference_machine.specs.Machine.{Machine, fresh};
+ghost use Rattle.reference_machine.specs.Moves.{closed_since, move_bound};
 ghost use Rattle.reference_machine.specs.Report.{ReportValue};
 ghost use Rattle.reference_machine.specs.Spent.{Element, is_open, floor_of};
-ghost use Rattle.reference_machine.specs.Stops.{Agrees};
+ghost use Rattle.reference_machine.specs.Stops.{Agrees, IsHeldEnd};
 ghost use Rattle.reference_machine.specs.Stops.StopCause.{Volume};
 ghost use Rattle.reference_machine.specs.TraceValues.{EntryValue};
 ghost use Rattle.image_parts.specs.Admission.{is_admitted};
 ghost use Rattle.reference_machine.specs.Verdicts.{refusal_with, capacity_of, keeps_dependencies};
+ghost use Rattle.reference_machine.specs.declared.event.Event.{Event};
 ghost use Rattle.reference_machine.specs.declared.unit.End.{End};
 
 use crate::{
@@ -89,23 +91,40 @@ pub fn a_boot_is_short()
 /// Events that tell no fault tell one trace and leave one machine, and there is such a run of any
 /// events.
 pub fn without_faults_there_is_one_machine()
-    ensures one { (f : Formats) (board : BoardValue) (acts : List Act) (told : List EntryValue)
-        (m : Machine) →
-        Run f (fresh board) acts told m → TellNoFault told →
-        (told ≡ trace_of f (fresh board) acts) × (m ≡ machine_after f (fresh board) acts) }
-    ensures some { (f : Formats) (board : BoardValue) (acts : List Act) →
-        Run f (fresh board) acts (trace_of f (fresh board) acts)
-        (machine_after f (fresh board) acts) }
+    ensures one { (f : Formats) (bytes_of : InputBytes) (board : BoardValue)
+        (events : List Event) (told : List EntryValue) (m : Machine) →
+        Run f bytes_of (fresh board) events told m → TellNoFault told →
+        (told ≡ trace_of f bytes_of (fresh board) events)
+        × (m ≡ machine_after f bytes_of (fresh board) events) }
+    ensures some { (f : Formats) (bytes_of : InputBytes) (board : BoardValue)
+        (events : List Event) →
+        Run f bytes_of (fresh board) events (trace_of f bytes_of (fresh board) events)
+        (machine_after f bytes_of (fresh board) events) }
 {}
 
 /// The list of spent units only grows, but for its last element closing: by each event, and by the
 /// steps of a boot.
 pub fn the_list_only_grows()
-    ensures events { (f : Formats) (board : BoardValue) (m : Machine) → IsReached f board m →
-        (act : Act) (entry : EntryValue) (new : Machine) → Step f m act entry new →
-        Grows m.list new.list }
+    ensures events { (f : Formats) (bytes_of : InputBytes) (board : BoardValue) (m : Machine) →
+        IsReached f board m → (event : Event) (entry : EntryValue) (new : Machine) →
+        Step f bytes_of m event entry new → Grows m.list new.list }
     ensures boots { (f : Formats) (board : BoardValue) (m : Machine) → IsReached f board m →
         (h : End) (j : ℕ) → Grows m.list (boot_at f m h j).machine.list }
+{}
+
+/// The lines of a boot tell of the elements that it closed, in their order.
+pub fn lines_tell_of_closed_units()
+    ensures { (f : Formats) (board : BoardValue) (m : Machine) → IsReached f board m →
+        (h : End) (j : ℕ) → IsHeldEnd h →
+        map (λ l. l.key) (boot_at f m h j).report.lines
+        ≡ map (λ e. e.key) (closed_since m.list (boot_at f m h j).machine.list) }
+{}
+
+/// The bound on the moves of a boot grows with its steps.
+pub fn the_bound_on_moves_grows()
+    ensures { (f : Formats) (board : BoardValue) (m : Machine) → IsReached f board m →
+        (h : End) (j : ℕ) → IsHeldEnd h →
+        move_bound f m (boot_at f m h j) ≤ move_bound f m (boot_at f m h (j + 1)) }
 {}
 
 /// Nothing is left of a whole boot.
@@ -125,8 +144,9 @@ pub fn the_heal_stands_before_the_volume()
 
 /// The machines of an event that is cut off are reached.
 pub fn cut_events_leave_reached_machines()
-    ensures { (f : Formats) (board : BoardValue) (m : Machine) → IsReached f board m →
-        (act : Act) (new : Machine) → IsIn new (cut_machines f m act) → IsReached f board new }
+    ensures { (f : Formats) (bytes_of : InputBytes) (board : BoardValue) (m : Machine) →
+        IsReached f board m → (event : Event) (new : Machine) →
+        IsIn new (cut_machines f bytes_of m event) → IsReached f board new }
 {}
 
 /// The limits of a platform, in numbers.

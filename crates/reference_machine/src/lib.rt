@@ -28,14 +28,17 @@ pub use event::Event;
 pub use laws::{
     a_boot_is_short, a_whole_boot_is_done, attempts_reach_the_floor,
     cut_events_leave_reached_machines, deliveries_are_apart, floor_never_falls, limits_are_kept,
-    memory_is_full_past_its_limits, spent_files_have_progress, the_checks_stand_in_order,
-    the_heal_stands_before_the_volume, the_last_alone_is_open, the_limits_are_these,
-    the_list_only_grows, units_stand_in_order, without_faults_there_is_one_machine,
+    lines_tell_of_closed_units, memory_is_full_past_its_limits, spent_files_have_progress,
+    the_bound_on_moves_grows, the_checks_stand_in_order, the_heal_stands_before_the_volume,
+    the_last_alone_is_open, the_limits_are_these, the_list_only_grows, units_stand_in_order,
+    without_faults_there_is_one_machine,
 };
 pub use limits::{MAX_CAPSULE_ITEMS, MAX_DELIVERY_CAPSULES, MAX_STAGED};
 pub use report::Report;
 pub use report_tables::{EsrtEntry, FmpResult, ResultVar};
-pub use samples::{sample_boots, sample_deliveries, sample_orders, sample_results, sample_staging};
+pub use samples::{
+    sample_boots, sample_deliveries, sample_moves, sample_orders, sample_results, sample_staging,
+};
 pub use snapshot::{CapsuleResult, FolderFile, Snapshot, StagedPair};
 pub use trace::{Answer, BootEnd, Entry};
 pub use unit::{End, Kind, UnitKey, UnitLine};

@@ -5,12 +5,17 @@ ghost use Rattle.std.specs.Prelude.{◌≡◌, ◌+◌, ◌^◌, ℕ, List, [], 
 ghost use Rattle.std.specs.Prelude.{Option, None, Some};
 ghost use Rattle.reference_machine.specs.Deliveries.{targets};
 ghost use Rattle.reference_machine.specs.Events.{flags_refusal};
+ghost use Rattle.reference_machine.specs.Boots.{boot_of};
+ghost use Rattle.reference_machine.specs.Moves.{look_bound, pieces_started, plain_moves};
 ghost use Rattle.reference_machine.specs.Results.{attempt_status, efi_number_of, efi_status};
 ghost use Rattle.reference_machine.specs.Results.{esrt_of, last_result, results_of, untried_number};
 ghost use Rattle.reference_machine.specs.Samples.{three_devices, sample_heads, sample_list};
 ghost use Rattle.reference_machine.specs.Samples.{passed_over, without_target, sample_esrt};
 ghost use Rattle.reference_machine.specs.Samples.{units_told, key_of, result_told, healed};
 ghost use Rattle.reference_machine.specs.Samples.{keeps_it, own_section_holds, kinds_after_reset};
+ghost use Rattle.reference_machine.specs.Samples.{bounds_of, machine_with, moves_after_reset};
+ghost use Rattle.reference_machine.specs.Samples.{one_claim, one_file, open_attempt};
+ghost use Rattle.reference_machine.specs.Samples.{sample_formats};
 ghost use Rattle.reference_machine.specs.Samples.{shown_files, shown_staged, ordered_pairs};
 ghost use Rattle.reference_machine.specs.TraceValues.AnswerValue.{Invalid, Unsupported};
 ghost use Rattle.reference_machine.specs.declared.unit.End.TheVariants.{Refused, Sealed, Kept};
@@ -66,6 +71,19 @@ pub fn sample_staging()
         ∷ Some Unsupported ∷ Some Unsupported ∷ [] }
     ensures warm { kinds_after_reset false ≡ Try ∷ Try ∷ NoTarget ∷ Skip ∷ Skip ∷ Skip ∷ [] }
     ensures cold { kinds_after_reset true ≡ Bad ∷ [] }
+{}
+
+/// How many moves and looks a boot makes at most, and how many moves are made where nothing fails.
+/// The boot over one file closes a unit with each of its first six steps; the heal is one step.
+pub fn sample_moves()
+    ensures pieces { map pieces_started (0 ∷ 1 ∷ 65536 ∷ 65537 ∷ 67108864 ∷ [])
+        ≡ 0 ∷ 1 ∷ 1 ∷ 2 ∷ 1024 ∷ [] }
+    ensures bounds { bounds_of one_file 9 ≡
+        240 ∷ 304 ∷ 368 ∷ 432 ∷ 496 ∷ 560 ∷ 560 ∷ 560 ∷ 560 ∷ [] }
+    ensures heal { bounds_of (machine_with (open_attempt ∷ [])) 3 ≡ 241 ∷ 241 ∷ 241 ∷ [] }
+    ensures looks { look_bound one_file (boot_of sample_formats one_file Sealed).report ≡ 36864 }
+    ensures plain { map moves_after_reset (false ∷ true ∷ []) ≡ 39 ∷ 19 ∷ [] }
+    ensures claim { plain_moves one_claim ≡ 40 }
 {}
 
 /// What is shown of a folder and of staged deliveries, and that items that are equal in an order

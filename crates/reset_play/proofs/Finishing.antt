@@ -4,7 +4,8 @@ use Rattle.std.proofs.Common.{arith, ap, ◌∙◌}
 use Rattle.reference_machine.specs.declared.unit.End.{End}
 use Rattle.reference_machine.specs.Boots.{BootTask, BootState, Course, after_unit, next}
 use Rattle.reference_machine.specs.Boots.{after_steps, boot_start, boot_of, boot_tasks, course_of}
-use Rattle.reference_machine.specs.Boots.BootTask.{Settles, Unstages, Does, Prunes, Removes, Clears}
+use Rattle.reference_machine.specs.Boots.BootTask.{Commits, Removes}
+use Rattle.reference_machine.specs.Boots.BootBatch.{Settles, Unstages, Does, Prunes, Clears}
 use Rattle.reference_machine.specs.Boots.Course.{Claim, Close}
 use Rattle.reference_machine.specs.Deliveries.{BootUnit}
 use Rattle.reference_machine.specs.Formats.{Formats}
@@ -34,54 +35,56 @@ Finishes f left =
 
 unit_steps : (f : Formats) (u : BootUnit) (rest : List BootTask) → Finishes f rest
     → (n : ℕ) (m : Machine) (r : ReportValue) (c : Course) → weight rest + 1 ≤ n
-    → after_steps f n (after_unit f (progress m (Does u ∷ rest) r) u rest c)
-    ≡ tasks_done f (next f (after_unit f (progress m (Does u ∷ []) r) u [] c)) rest
+    → after_steps f n (after_unit f (progress m (Commits (Does u) ∷ rest) r) u rest c)
+    ≡ tasks_done f (next f (after_unit f (progress m (Commits (Does u) ∷ []) r) u [] c)) rest
 unit_steps f u rest ih zero m r c h = absurd (omega arith)
 unit_steps f u rest ih (suc n) m r Claim h =
-    let p : BootState = after_unit f (progress m (Does u ∷ rest) r) u rest Claim in
+    let p : BootState = after_unit f (progress m (Commits (Does u) ∷ rest) r) u rest Claim in
     let b : BootState = next f p in
     let le : weight rest ≤ n = omega arith in
     steps_first f n p ∙ ih n b.machine b.report le
 unit_steps f u rest ih (suc n) m r (Close end) h =
-    let b : BootState = after_unit f (progress m (Does u ∷ rest) r) u rest (Close end) in
+    let b : BootState = after_unit f (progress m (Commits (Does u) ∷ rest) r) u rest (Close end) in
     let le : weight rest ≤ suc n = omega arith in
     ih (suc n) b.machine b.report le
 
 pub finish_steps : (f : Formats) (left : List BootTask) → Finishes f left
 finish_steps f [] n m r h = ended_stays f n m r
-finish_steps f (Does u ∷ rest) zero m r h = absurd (omega arith)
-finish_steps f (Does u ∷ rest) (suc n) m r h =
+finish_steps f (Commits (Does u) ∷ rest) zero m r h = absurd (omega arith)
+finish_steps f (Commits (Does u) ∷ rest) (suc n) m r h =
     let le : weight rest + 1 ≤ n = omega arith in
-    steps_first f n (progress m (Does u ∷ rest) r)
+    steps_first f n (progress m (Commits (Does u) ∷ rest) r)
     ∙ unit_steps f u rest (finish_steps f rest) n m r (course_of f m u u.kind) le
-finish_steps f (Settles kind end ∷ rest) zero m r h = absurd (omega arith)
-finish_steps f (Settles kind end ∷ rest) (suc n) m r h =
-    let b : BootState = next f (progress m (Settles kind end ∷ rest) r) in
+finish_steps f (Commits (Settles kind end) ∷ rest) zero m r h = absurd (omega arith)
+finish_steps f (Commits (Settles kind end) ∷ rest) (suc n) m r h =
+    let b : BootState = next f (progress m (Commits (Settles kind end) ∷ rest) r) in
     let le : weight rest ≤ n = omega arith in
-    steps_first f n (progress m (Settles kind end ∷ rest) r)
+    steps_first f n (progress m (Commits (Settles kind end) ∷ rest) r)
     ∙ finish_steps f rest n b.machine b.report le
-finish_steps f (Unstages pair ∷ rest) zero m r h = absurd (omega arith)
-finish_steps f (Unstages pair ∷ rest) (suc n) m r h =
-    let b : BootState = next f (progress m (Unstages pair ∷ rest) r) in
+finish_steps f (Commits (Unstages pair) ∷ rest) zero m r h = absurd (omega arith)
+finish_steps f (Commits (Unstages pair) ∷ rest) (suc n) m r h =
+    let b : BootState = next f (progress m (Commits (Unstages pair) ∷ rest) r) in
     let le : weight rest ≤ n = omega arith in
-    steps_first f n (progress m (Unstages pair ∷ rest) r)
+    steps_first f n (progress m (Commits (Unstages pair) ∷ rest) r)
     ∙ finish_steps f rest n b.machine b.report le
-finish_steps f (Prunes ∷ rest) zero m r h = absurd (omega arith)
-finish_steps f (Prunes ∷ rest) (suc n) m r h =
-    let b : BootState = next f (progress m (Prunes ∷ rest) r) in
+finish_steps f (Commits Prunes ∷ rest) zero m r h = absurd (omega arith)
+finish_steps f (Commits Prunes ∷ rest) (suc n) m r h =
+    let b : BootState = next f (progress m (Commits Prunes ∷ rest) r) in
     let le : weight rest ≤ n = omega arith in
-    steps_first f n (progress m (Prunes ∷ rest) r) ∙ finish_steps f rest n b.machine b.report le
+    steps_first f n (progress m (Commits Prunes ∷ rest) r)
+    ∙ finish_steps f rest n b.machine b.report le
 finish_steps f (Removes serial ∷ rest) zero m r h = absurd (omega arith)
 finish_steps f (Removes serial ∷ rest) (suc n) m r h =
     let b : BootState = next f (progress m (Removes serial ∷ rest) r) in
     let le : weight rest ≤ n = omega arith in
     steps_first f n (progress m (Removes serial ∷ rest) r)
     ∙ finish_steps f rest n b.machine b.report le
-finish_steps f (Clears ∷ rest) zero m r h = absurd (omega arith)
-finish_steps f (Clears ∷ rest) (suc n) m r h =
-    let b : BootState = next f (progress m (Clears ∷ rest) r) in
+finish_steps f (Commits Clears ∷ rest) zero m r h = absurd (omega arith)
+finish_steps f (Commits Clears ∷ rest) (suc n) m r h =
+    let b : BootState = next f (progress m (Commits Clears ∷ rest) r) in
     let le : weight rest ≤ n = omega arith in
-    steps_first f n (progress m (Clears ∷ rest) r) ∙ finish_steps f rest n b.machine b.report le
+    steps_first f n (progress m (Commits Clears ∷ rest) r)
+    ∙ finish_steps f rest n b.machine b.report le
 
 -- a whole boot is all its work, done piece by piece
 pub boot_finish : (f : Formats) (m : Machine) (h : End)

@@ -130,17 +130,17 @@ one_file_more board gone files file done claimed p on room =
 above : (a n : ℕ) → nat_le a n ≡ false → n < a
 above a n h = grind (arith, nat_tests)
 
-no_room : (a b c : Bool) → (a && not b || c) ≡ false → b ≡ false → a ≡ false
-no_room true true c h e = cc
-no_room true false c h e = cc
-no_room false b c h e = refl
+no_room : (a b c d : Bool) → (a && not b || c || d) ≡ false → b ≡ false → a ≡ false
+no_room true true c d h e = cc
+no_room true false c d h e = cc
+no_room false b c d h e = refl
 
 -- a folder that is not full has room for a new name
-pub room_left : (files : List File) (known last : Bool)
-    → (nat_le MAX_FILES (length files) && not known || last) ≡ false → known ≡ false
+pub room_left : (files : List File) (known heavy last : Bool)
+    → (nat_le MAX_FILES (length files) && not known || heavy || last) ≡ false → known ≡ false
     → length files < MAX_FILES
-room_left files known last h e =
-    above MAX_FILES (length files) (no_room (nat_le MAX_FILES (length files)) known last h e)
+room_left files known heavy last h e =
+    above MAX_FILES (length files) (no_room (nat_le MAX_FILES (length files)) known heavy last h e)
 
 -- an outcome of a platform, by its parts
 abbrev pub outcome_of : EntryValue → BoardValue → List File → ℕ → Bool → List Element → List ℕ → ℕ

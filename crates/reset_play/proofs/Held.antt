@@ -14,7 +14,8 @@ use Rattle.reference_machine.specs.declared.unit.End.TheVariants.{Sealed}
 use Rattle.reference_machine.specs.declared.unit.Kind.{Kind}
 use Rattle.reference_machine.specs.Boots.{BootState, closed_with, progress_with, next_line}
 use Rattle.reference_machine.specs.Boots.{settled_with, with_lines}
-use Rattle.reference_machine.specs.Boots.BootTask.{Settles}
+use Rattle.reference_machine.specs.Boots.BootBatch.{Settles}
+use Rattle.reference_machine.specs.Boots.BootTask.{Commits}
 use Rattle.reference_machine.specs.Report.{ReportValue}
 use Rattle.reference_machine.specs.Results.{line_of}
 use Rattle.reset_play.specs.Thin.{thin}
@@ -185,7 +186,7 @@ pub settled_whole : (board : BoardValue) (files : List File) (last : ℕ) (asked
     ≡ task_done thin
     (built board files last asked
     (done ++ e ∷ []) in_progress batches opened steps lines unstaged removed pending)
-    (Settles kind Sealed)
+    (Commits (Settles kind Sealed))
 settled_whole board files last asked done e in_progress batches opened steps lines unstaged removed
     pending kind all h =
     let found : find is_open (done ++ e ∷ []) ≡ Some e = found_held done e all h in

@@ -1,3 +1,4 @@
+pub mod AlikeInputs
 pub mod Finishing
 pub mod FolderFiles
 pub mod FolderLemmas
@@ -11,6 +12,7 @@ pub mod ScriptNames
 pub mod ScriptSpelled
 pub mod SpentLemmas
 pub mod TextLemmas
+pub mod ThinLaws
 pub mod ThinLemmas
-pub mod ThinLimits
+pub mod ThinPlaces
 pub mod VerdictLemmas

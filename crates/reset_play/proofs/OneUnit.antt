@@ -7,9 +7,11 @@ use Rattle.std.proofs.lemmas.Bool.Decides.{nat_tests}
 use Rattle.std.specs.List.{list_any, list_all, enumerate_from}
 use Rattle.bench_model.specs.Boards.{BoardValue}
 use Rattle.bench_model.specs.Devices.{DeviceValue}
-use Rattle.reference_machine.specs.Boots.{file_tasks, file_delivery}
-use Rattle.reference_machine.specs.Boots.BootTask.{Does, Removes}
-use Rattle.reference_machine.specs.Deliveries.{BootUnit, units, targets, is_target}
+use Rattle.reference_machine.specs.Boots.{file_tasks, file_delivery, unit_tasks}
+use Rattle.reference_machine.specs.Boots.BootBatch.{Does}
+use Rattle.reference_machine.specs.Boots.BootTask.{Commits, Removes}
+use Rattle.reference_machine.specs.Deliveries.{BootUnit, decoded_units, numbered, units}
+use Rattle.reference_machine.specs.Deliveries.{is_target, targets}
 use Rattle.reference_machine.specs.Formats.{ItemHead}
 use Rattle.bench_model.specs.Files.{File}
 use Rattle.reference_machine.specs.Machine.{Machine}
@@ -19,12 +21,13 @@ use Rattle.reference_machine.specs.Spent.{spent}
 use Rattle.reset_play.specs.Thin.{thin, thin_item, is_thin}
 use Rattle.reset_play.specs.Whole.{file_unit, marked_tasks, all_marked_tasks, marks_of}
 use Rattle.reference_machine.proofs.Tests.{both_left, both_right}
+use Rattle.reset_play.proofs.ThinLaws.{thin_is_seen}
 
 either_left : (a : Bool) → (a || false) ≡ true → a ≡ true
 either_left true h = refl
 either_left false h = cc
 
-two_not_one : (n : ℕ) → (suc (suc n) == 1) ≡ true → ⊥
+pub two_not_one : (n : ℕ) → (suc (suc n) == 1) ≡ true → ⊥
 two_not_one n h =
     let no : (suc (suc n) == 1) ≡ false = grind (arith, nat_tests) in
     let never : true ≡ false = sym h ∙ no in
@@ -48,15 +51,16 @@ units_one board x one on =
     let ts : targets (thin_item x.bytes).head board ≡ 0 ∷ [] =
     targets_one (thin_item x.bytes).head board.devices one
     (both_right (is_thin x.bytes) _ on) in
-    rw (t, ts)
+    ap (λ found. map numbered (enumerate_from 0 (decoded_units board (file_delivery x) found)))
+    (thin_is_seen x.bytes t) ∙ rw ts refl
 
 drop_one : (n : ℕ) (u : BootUnit)
-    → map Does (drop n (u ∷ [])) ≡ (cond (not (n == 0)) [] (Does u ∷ []))
+    → unit_tasks (drop n (u ∷ [])) ≡ (cond (not (n == 0)) [] (Commits (Does u) ∷ []))
 drop_one zero u = refl
 drop_one (suc n) u =
     let none : drop n (no_units) ≡ [] = drop-nil n in
     let test : (suc n == 0) ≡ false = grind (arith, nat_tests) in
-    ap (map Does) none ∙ ap (λ b. cond (not b) [] (Does u ∷ [])) (sym test)
+    ap unit_tasks none ∙ ap (λ b. cond (not b) [] (Commits (Does u) ∷ [])) (sym test)
   where
     no_units : List BootUnit
     no_units = []
@@ -66,7 +70,7 @@ pub work_one : (m : Machine) (x : File) → IsTrue (has_one_device m.board)
     → IsTrue (is_thin_on m.board x.bytes)
     → file_tasks thin m x ≡ marked_tasks x (not (spent m.list x.serial == 0))
 work_one m x one on =
-    ap (λ us. map Does (drop (spent m.list x.serial) us) ++ Removes x.serial ∷ [])
+    ap (λ us. unit_tasks (drop (spent m.list x.serial) us) ++ Removes x.serial ∷ [])
     (units_one m.board x one on)
     ∙ ap (λ w. w ++ Removes x.serial ∷ []) (drop_one (spent m.list x.serial) (file_unit x))
 

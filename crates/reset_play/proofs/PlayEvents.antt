@@ -3,9 +3,9 @@ use Rattle.std.proofs.Common.{◌≡◌, ℕ, zero, suc, ◌+◌, ◌<◌, ◌�
 use Rattle.std.proofs.Common.{get_or, length, refl, sym, ap, arith, ◌∙◌, drop-cons, add-one}
 use Rattle.reference_machine.specs.declared.event.Event.{Event}
 use Rattle.cu_io.specs.Named.{Named}
-use Rattle.reference_machine.specs.Events.{act_of, outcome, trace_of, machine_after}
+use Rattle.reference_machine.specs.Events.{outcome, trace_of, machine_after}
 use Rattle.reference_machine.specs.Machine.{Machine}
-use Rattle.reset_play.specs.Plays.{loaded_bytes, acts_of}
+use Rattle.reset_play.specs.Plays.{loaded_bytes}
 use Rattle.reset_play.specs.Thin.{thin}
 use Rattle.reference_machine.specs.TraceValues.{EntryValue}
 
@@ -49,31 +49,28 @@ taken_whole [] (suc k) h = refl
 taken_whole (y ∷ ys) zero h = cc
 taken_whole (y ∷ ys) (suc k) h = ap (λ l. y ∷ l) (taken_whole ys k h)
 
-acts_next : (named : Named) (events : List Event) (k : ℕ) (e : Event) → k < length events
-    → acts_of named (drop k events)
-    ≡ act_of (loaded_bytes named) (get_or events k e) ∷ acts_of named (drop (k + 1) events)
-acts_next named events k e h = rw (drop-cons events k e h, add-one k) refl
+next_events : (events : List Event) (k : ℕ) (e : Event) → k < length events
+    → drop k events ≡ get_or events k e ∷ drop (k + 1) events
+next_events events k e h = rw (drop-cons events k e h, add-one k) refl
 
 pub told_next : (named : Named) (events : List Event) (k : ℕ) (e : Event) (m new : Machine)
     (said : EntryValue) → e ≡ get_or events k e → k < length events
-    → (said, new) ≡ outcome thin m (act_of (loaded_bytes named) e)
-    → said ∷ trace_of thin new (acts_of named (drop (k + 1) events))
-    ≡ trace_of thin m (acts_of named (drop k events))
+    → (said, new) ≡ outcome thin (loaded_bytes named) m e
+    → said ∷ trace_of thin (loaded_bytes named) new (drop (k + 1) events)
+    ≡ trace_of thin (loaded_bytes named) m (drop k events)
 told_next named events k e m new said is h told =
     ap (λ (o : EntryValue × Machine). o.0
-    ∷ trace_of thin o.1 (acts_of named (drop (k + 1) events))) told
-    ∙ ap (λ (x : Event). trace_of thin m
-    (act_of (loaded_bytes named) x ∷ acts_of named (drop (k + 1) events))) is
-    ∙ sym (ap (trace_of thin m) (acts_next named events k e h))
+    ∷ trace_of thin (loaded_bytes named) o.1 (drop (k + 1) events)) told
+    ∙ ap (λ (x : Event). trace_of thin (loaded_bytes named) m (x ∷ drop (k + 1) events)) is
+    ∙ sym (ap (trace_of thin (loaded_bytes named) m) (next_events events k e h))
 
 pub machine_next : (named : Named) (events : List Event) (k : ℕ) (e : Event) (m new : Machine)
     (said : EntryValue) → e ≡ get_or events k e → k < length events
-    → (said, new) ≡ outcome thin m (act_of (loaded_bytes named) e)
-    → machine_after thin new (acts_of named (drop (k + 1) events))
-    ≡ machine_after thin m (acts_of named (drop k events))
+    → (said, new) ≡ outcome thin (loaded_bytes named) m e
+    → machine_after thin (loaded_bytes named) new (drop (k + 1) events)
+    ≡ machine_after thin (loaded_bytes named) m (drop k events)
 machine_next named events k e m new said is h told =
-    ap (λ (o : EntryValue × Machine). machine_after thin o.1
-    (acts_of named (drop (k + 1) events))) told
-    ∙ ap (λ (x : Event). machine_after thin m
-    (act_of (loaded_bytes named) x ∷ acts_of named (drop (k + 1) events))) is
-    ∙ sym (ap (machine_after thin m) (acts_next named events k e h))
+    ap (λ (o : EntryValue × Machine). machine_after thin (loaded_bytes named) o.1
+    (drop (k + 1) events)) told
+    ∙ ap (λ (x : Event). machine_after thin (loaded_bytes named) m (x ∷ drop (k + 1) events)) is
+    ∙ sym (ap (machine_after thin (loaded_bytes named) m) (next_events events k e h))

@@ -1,9 +1,8 @@
 -- The parts of a boot on lists.
 use Rattle.std.proofs.Common.{◌≡◌, ℕ, ◌+◌, ◌<◌, List, [], ◌∷◌, ◌++◌, find, drop, get_or, length}
 use Rattle.std.proofs.Common.{refl, sym, ap, arith, nat_lt, flat_map, ◌∙◌, Option, Some, None, Bool}
-use Rattle.std.proofs.Common.{drop-cons, add-one, option_map, unwrap_or, IsTrue, true, false, cond}
+use Rattle.std.proofs.Common.{drop-cons, add-one, option_map, unwrap_or, IsTrue, true, cond}
 use Rattle.std.specs.List.{list_all}
-use Rattle.cu_base.specs.Fields.{number_at}
 use Rattle.reference_machine.specs.declared.snapshot.StagedPair.{StagedPair}
 use Rattle.reference_machine.specs.declared.unit.End.{End}
 use Rattle.reference_machine.specs.declared.unit.End.TheVariants.{Refused, Sealed}
@@ -14,9 +13,10 @@ use Rattle.reference_machine.specs.Boots.{boot_start, tasks_with, staged_tasks, 
 use Rattle.reference_machine.specs.Boots.{folder_tasks, file_tasks, files_in_order, prune_tasks}
 use Rattle.reference_machine.specs.Boots.{settled, settled_with, element_of, course_of_try}
 use Rattle.reference_machine.specs.Boots.{with_claim, with_element, with_lines, one_step, next_line}
-use Rattle.reference_machine.specs.Boots.BootTask.{Settles, Does, Clears}
+use Rattle.reference_machine.specs.Boots.BootBatch.{Settles, Does, Clears}
+use Rattle.reference_machine.specs.Boots.BootTask.{Commits}
 use Rattle.reference_machine.specs.Deliveries.{fmp_guid}
-use Rattle.reference_machine.specs.Formats.{Item, Parts}
+use Rattle.reference_machine.specs.Formats.{Item}
 use Rattle.bench_model.specs.Files.{File}
 use Rattle.reference_machine.specs.Machine.{Machine}
 use Rattle.reference_machine.specs.Names.{is_taken_before}
@@ -25,11 +25,12 @@ use Rattle.reset_play.specs.Plays.{has_one_device, is_thin_on}
 use Rattle.reference_machine.specs.Report.{ReportValue}
 use Rattle.reference_machine.specs.Spent.{Element, is_open}
 use Rattle.reference_machine.specs.Spent.Standing.{Open, Closed}
-use Rattle.reset_play.specs.Thin.{thin, thin_item, is_refused, plain_parts}
+use Rattle.reset_play.specs.Thin.{thin, thin_item}
 use Rattle.reference_machine.specs.Verdicts.{refusal}
 use Rattle.reset_play.specs.Whole.{task_done, tasks_done, file_key, file_unit, heal_tasks}
 use Rattle.reset_play.specs.Whole.{marked_tasks, all_marked_tasks, marks_of}
 use Rattle.reset_play.proofs.OneUnit.{ordered_all, works_marked}
+use Rattle.reset_play.proofs.VerdictLemmas.{no_section}
 use Rattle.reset_play.proofs.Finishing.{progress, boot_finish, finish_append}
 
 no_staged : (n : Machine) → n.staged ≡ [] → staged_tasks thin n ≡ []
@@ -53,7 +54,8 @@ by_found m none None =
     (w ++ folder_tasks thin m)) (no_staged m none)
 by_found m none (Some e) =
     ap (λ w. tasks_done thin
-    (task_done thin (progress m [] (boot_start thin m Sealed).report) (Settles Heal Sealed))
+    (task_done thin (progress m [] (boot_start thin m Sealed).report)
+    (Commits (Settles Heal Sealed)))
     (w ++ folder_tasks thin (settled m Sealed)))
     (no_staged (settled m Sealed) (settled_staged m Sealed (find is_open m.list) ∙ none))
 
@@ -71,23 +73,23 @@ pub tried_refused : (m : Machine) (r : ReportValue) (x : File) (status : ℕ) (e
     → refusal thin m (file_unit x) ≡ Some status
     → e ≡ element_of thin (file_unit x) (Closed (Some (Refused status)) m.now)
     → progress (with_element m e) [] (with_lines r (next_line m Try e ∷ []))
-    ≡ task_done thin (progress m [] r) (Does (file_unit x))
+    ≡ task_done thin (progress m [] r) (Commits (Does (file_unit x)))
 tried_refused m r x status e h is =
     ap (λ (p : Element). progress (with_element m p) [] (with_lines r (next_line m Try p ∷ []))) is
     ∙ sym (ap (λ o. next thin
-    (after_unit thin (progress m (Does (file_unit x) ∷ []) r) (file_unit x) []
+    (after_unit thin (progress m (Commits (Does (file_unit x)) ∷ []) r) (file_unit x) []
     (course_of_try o))) h)
 
 -- one that is claimed
 pub tried_claimed : (m : Machine) (r : ReportValue) (x : File) (e : Element)
     → refusal thin m (file_unit x) ≡ None → e ≡ element_of thin (file_unit x) Open
-    → task_done thin (progress (with_claim m e) [] (one_step r)) (Settles Try Sealed)
-    ≡ task_done thin (progress m [] r) (Does (file_unit x))
+    → task_done thin (progress (with_claim m e) [] (one_step r)) (Commits (Settles Try Sealed))
+    ≡ task_done thin (progress m [] r) (Commits (Does (file_unit x)))
 tried_claimed m r x e h is =
     ap (λ (p : Element). task_done thin (progress (with_claim m p) [] (one_step r))
-    (Settles Try Sealed)) is
+    (Commits (Settles Try Sealed))) is
     ∙ sym (ap (λ o. next thin
-    (after_unit thin (progress m (Does (file_unit x) ∷ []) r) (file_unit x) []
+    (after_unit thin (progress m (Commits (Does (file_unit x)) ∷ []) r) (file_unit x) []
     (course_of_try o))) h)
 
 -- the work on the files that are left, of which one is next
@@ -117,29 +119,11 @@ attempt_with key item version floor dependency payload = record {
 abbrev attempt_built : UnitKey → Item → ℕ → ℕ → List ℕ → Element
 attempt_built key item version floor payload = attempt_with key item version floor [] payload
 
--- no image of support 0 has a dependency section
-no_section : (image : List ℕ)
-    → [] ≡ unwrap_or (option_map (λ (p : Parts). p.dependency) (plain_parts image 0)) []
-no_section image =
-    elim (is_refused image) as
-    (λ b. [] ≡ unwrap_or
-    (option_map (λ (p : Parts). p.dependency)
-    (cond b None (Some
-    (record {
-      version = number_at image 8 4;
-      lowest = number_at image 12 4;
-      dependency = [];
-      payload = drop (number_at image 4 4) image;
-    })))) []) [
-      | true ↦ refl
-      | false ↦ refl
-    ]
-
 pub attempt_is : (x : File) (item : Item) (key : UnitKey) (version floor : ℕ) (payload : List ℕ)
     → item ≡ thin_item x.bytes → key ≡ file_key x
-    → version ≡ unwrap_or (option_map (λ p. p.version) (plain_parts item.image 0)) 0
-    → floor ≡ unwrap_or (option_map (λ p. p.lowest) (plain_parts item.image 0)) 0
-    → payload ≡ unwrap_or (option_map (λ p. p.payload) (plain_parts item.image 0)) []
+    → version ≡ unwrap_or (option_map (λ p. p.version) (thin.parts item.image 0)) 0
+    → floor ≡ unwrap_or (option_map (λ p. p.lowest) (thin.parts item.image 0)) 0
+    → payload ≡ unwrap_or (option_map (λ p. p.payload) (thin.parts item.image 0)) []
     → record {
       kind = Try;
       key = key;
@@ -156,18 +140,18 @@ attempt_is x item key version floor payload is k v l p =
     ap (λ (n : UnitKey). attempt_built n item version floor payload) k
     ∙ ap (λ (n : ℕ). attempt_built (file_key x) item n floor payload) v
     ∙ ap (λ (n : ℕ). attempt_built (file_key x) item
-    (unwrap_or (option_map (λ q. q.version) (plain_parts item.image 0)) 0) n payload) l
+    (unwrap_or (option_map (λ q. q.version) (thin.parts item.image 0)) 0) n payload) l
     ∙ ap (λ (n : List ℕ). attempt_built (file_key x) item
-    (unwrap_or (option_map (λ q. q.version) (plain_parts item.image 0)) 0)
-    (unwrap_or (option_map (λ q. q.lowest) (plain_parts item.image 0)) 0) n) p
+    (unwrap_or (option_map (λ q. q.version) (thin.parts item.image 0)) 0)
+    (unwrap_or (option_map (λ q. q.lowest) (thin.parts item.image 0)) 0) n) p
     ∙ ap (λ (i : Item). attempt_built (file_key x) i
-    (unwrap_or (option_map (λ q. q.version) (plain_parts i.image 0)) 0)
-    (unwrap_or (option_map (λ q. q.lowest) (plain_parts i.image 0)) 0)
-    (unwrap_or (option_map (λ q. q.payload) (plain_parts i.image 0)) [])) is
+    (unwrap_or (option_map (λ q. q.version) (thin.parts i.image 0)) 0)
+    (unwrap_or (option_map (λ q. q.lowest) (thin.parts i.image 0)) 0)
+    (unwrap_or (option_map (λ q. q.payload) (thin.parts i.image 0)) [])) is
     ∙ ap (λ (n : List ℕ). attempt_with (file_key x) (thin_item x.bytes)
-    (unwrap_or (option_map (λ q. q.version) (plain_parts (thin_item x.bytes).image 0)) 0)
-    (unwrap_or (option_map (λ q. q.lowest) (plain_parts (thin_item x.bytes).image 0)) 0) n
-    (unwrap_or (option_map (λ q. q.payload) (plain_parts (thin_item x.bytes).image 0)) []))
+    (unwrap_or (option_map (λ q. q.version) (thin.parts (thin_item x.bytes).image 0)) 0)
+    (unwrap_or (option_map (λ q. q.lowest) (thin.parts (thin_item x.bytes).image 0)) 0) n
+    (unwrap_or (option_map (λ q. q.payload) (thin.parts (thin_item x.bytes).image 0)) []))
     (no_section (thin_item x.bytes).image)
 
 -- one file of those that are left is done
@@ -192,7 +176,7 @@ pub folder_parts : (m : Machine) (xs : List File) (marks : List Bool) (b0 b1 b2 
     → m.is_signalled ≡ true → IsTrue (has_one_device m.board)
     → IsTrue (list_all (λ (x : File). is_thin_on m.board x.bytes) m.files)
     → xs ≡ files_in_order m → marks ≡ marks_of m.list xs → b1 ≡ tasks_done thin b0 (prune_tasks m)
-    → b2 ≡ tasks_done thin b1 (all_marked_tasks xs marks) → b3 ≡ task_done thin b2 Clears
+    → b2 ≡ tasks_done thin b1 (all_marked_tasks xs marks) → b3 ≡ task_done thin b2 (Commits Clears)
     → b3 ≡ tasks_done thin b0 (folder_tasks thin m)
 folder_parts m xs marks b0 b1 b2 b3 asked one all is marked pruned done cleared =
     let files : List BootTask = flat_map (file_tasks thin m) (files_in_order m) in
@@ -204,12 +188,12 @@ folder_parts m xs marks b0 b1 b2 b3 asked one all is marked pruned done cleared 
     works_marked m (files_in_order m) one all_in_order
     ∙ ap (λ (ys : List File). all_marked_tasks ys (marks_of m.list ys)) (sym is)
     ∙ ap (all_marked_tasks xs) (sym marked) in
-    let folder : folder_tasks thin m ≡ (prune_tasks m ++ files) ++ Clears ∷ [] =
-    ap (λ t. cond t ((prune_tasks m ++ files) ++ Clears ∷ []) []) asked in
+    let folder : folder_tasks thin m ≡ (prune_tasks m ++ files) ++ Commits Clears ∷ [] =
+    ap (λ t. cond t ((prune_tasks m ++ files) ++ Commits Clears ∷ []) []) asked in
     cleared
-    ∙ ap (λ (p : BootState). task_done thin p Clears)
+    ∙ ap (λ (p : BootState). task_done thin p (Commits Clears))
     (done ∙ ap (λ (p : BootState). tasks_done thin p (all_marked_tasks xs marks)) pruned
     ∙ ap (tasks_done thin (tasks_done thin b0 (prune_tasks m))) (sym works)
     ∙ sym (finish_append thin (prune_tasks m) files b0))
-    ∙ sym (finish_append thin (prune_tasks m ++ files) (Clears ∷ []) b0)
+    ∙ sym (finish_append thin (prune_tasks m ++ files) (Commits Clears ∷ []) b0)
     ∙ ap (tasks_done thin b0) (sym folder)

@@ -1,9 +1,12 @@
 -- Thin deliveries.
 use Rattle.std.proofs.Common.{◌≡◌, ℕ, ◌+◌, ◌*◌, ◌≤◌, ◌<◌, ◌==◌, ◌&&◌, nat_le, if◌then◌else◌, Option}
 use Rattle.std.proofs.Common.{Some, None, unwrap_or, Bool, true, false, List, length, take, get_or}
-use Rattle.std.proofs.Common.{drop-cons, refl, ap, ◌∙◌, sym, arith}
+use Rattle.std.proofs.Common.{◌^◌, cond, drop, drop-cons, refl, ap, ◌∙◌, sym, arith}
+use Rattle.std.proofs.lemmas.Bool.{leb-true}
+use Rattle.std.proofs.lemmas.List.{length-take, length-drop}
 use Rattle.cu_base.specs.declared.guid.Guid.{Guid}
 use Rattle.cu_base.specs.Fields.{field, number_at, number}
+use Rattle.cu_base.specs.declared.limits.TheConstants.{MAX_CAPSULE_BYTES}
 use Rattle.std.specs.List.{list_any}
 use Rattle.bench_model.specs.Boards.{BoardValue}
 use Rattle.bench_model.specs.Devices.{DeviceValue}
@@ -25,8 +28,9 @@ sum_within x y n h = grind (arith, h)
 pub image_end : (b : List ℕ) → is_thin b ≡ true → 92 + number_at b 68 4 ≤ length b
 image_end b h =
     let image : has_thin_image b ≡ true =
-    second (nat_le 92 (length b) && has_thin_header b && has_thin_body b)
-    (has_thin_image b) h in
+    second
+    (nat_le 92 (length b) && nat_le (length b) MAX_CAPSULE_BYTES && has_thin_header b
+    && has_thin_body b) (has_thin_image b) h in
     let end : (92 + number_at b 68 4 + number_at b 72 4 == length b) ≡ true =
     second (number_at b 44 4 == 3 && number_at b 84 8 == 0) _ image in
     sum_within (number_at b 68 4) (number_at b 72 4) (length b) end
@@ -67,3 +71,34 @@ nothing_said false said devices h = refl
 pub not_thin_on : (board : BoardValue) (b : List ℕ) → None ≡ thin_said b
     → false ≡ is_thin_on board b
 not_thin_on board b h = nothing_said (is_thin b) (thin_item b) board.devices h
+
+first : (a b : Bool) → a && b ≡ true → a ≡ true
+first true b h = refl
+first false b h = h
+
+-- a thin delivery is no longer than a capsule may be
+thin_small : (b : List ℕ) → is_thin b ≡ true → length b ≤ MAX_CAPSULE_BYTES
+thin_small b h =
+    leb-true (length b) MAX_CAPSULE_BYTES
+    (second (nat_le 92 (length b)) (nat_le (length b) MAX_CAPSULE_BYTES)
+    (first _ (has_thin_header b) (first _ (has_thin_body b) (first _ (has_thin_image b) h))))
+
+-- so its image is a short one
+image_small : (b image : List ℕ) → is_thin b ≡ true → image ≡ (thin_item b).image
+    → length image < 2 ^ 32
+image_small b image h e =
+    let rest : List ℕ = drop 92 b in
+    omega (
+      arith,
+      ap length e,
+      length-take (number_at b 68 4) rest,
+      length-drop 92 b,
+      thin_small b h,
+    )
+
+pub said_small : (b : List ℕ) (item : Item) → is_thin b ≡ true → Some item ≡ thin_said b
+    → length item.image < 2 ^ 32
+said_small b item h e =
+    image_small b item.image h
+    (ap (λ (o : Option Item). (unwrap_or o item).image)
+    (e ∙ ap (λ (t : Bool). cond t (Some (thin_item b)) None) h))

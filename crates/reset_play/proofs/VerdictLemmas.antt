@@ -1,40 +1,68 @@
 -- The verdict on an image.
-use Rattle.std.proofs.Common.{◌≡◌, ◌∙◌, ap, ℕ, Bool, true, false, ◌||◌, ◌&&◌, ◌==◌, not, List, []}
-use Rattle.std.proofs.Common.{◌∷◌, length, refl, Option}
-use Rattle.std.specs.List.{list_all, enumerate_from}
+use Rattle.std.proofs.Common.{◌≡◌, ℕ, ◌==◌, true, cond, List, [], ◌∷◌, length, refl, Option}
+use Rattle.std.proofs.Common.{Some, None, is_some, option_map, unwrap_or, IsTrue, ap, ◌∙◌, sym}
+use Rattle.cu_base.specs.Refusals.{first_refusal}
+use Rattle.bench_model.specs.Boards.{BoardValue}
 use Rattle.bench_model.specs.Devices.{DeviceValue}
+use Rattle.cu_base.specs.Bytes.{IsBytes}
+use Rattle.image_parts.specs.declared.fault.PartRefusal.{PartRefusal}
+use Rattle.image_parts.specs.declared.fault.PartRefusal.TheVariants.{Part, Memory}
+use Rattle.image_parts.specs.declared.fault.PartWhy.{PartWhy}
+use Rattle.image_parts.specs.Refusals.{IsRefusalOf}
+use Rattle.image_parts.specs.Support.{has_section}
+use Rattle.image_parts.specs.Cuts.{head_rows, parts_at}
 use Rattle.reference_machine.specs.Deliveries.{BootUnit}
 use Rattle.reference_machine.specs.Formats.{Parts}
 use Rattle.reference_machine.specs.Machine.{Machine}
-use Rattle.reference_machine.specs.Spent.{dependency_of, versions_of}
-use Rattle.reference_machine.specs.Verdicts.{refusal, refusal_with, holds, goes_on_holding}
-use Rattle.reference_machine.specs.Verdicts.{keeps_dependencies}
-use Rattle.reset_play.specs.declared.thin_play.delivery.PlainParts.{PlainParts}
-use Rattle.reset_play.specs.Thin.{thin, plain_parts}
-use Rattle.reset_play.specs.ThinValues.{parts_of}
+use Rattle.reference_machine.specs.Verdicts.{refusal, refusal_with, keeps_dependencies}
+use Rattle.delivery_formats.specs.Seen.{machine_parts}
+use Rattle.delivery_formats.proofs.FormatLemmas.{no_parts_seen}
+use Rattle.reset_play.specs.Plays.{has_one_device}
+use Rattle.reset_play.specs.Thin.{thin}
+use Rattle.reset_play.proofs.OneUnit.{two_not_one}
 
 -- the verdict on an image is that on its parts
 pub parts_read : (image : List ℕ) (m : Machine) (u : BootUnit) (parts : Option Parts)
-    → u.image ≡ image → parts ≡ plain_parts image 0 → refusal_with thin m u parts ≡ refusal thin m u
-parts_read image m u parts ei ep = rw (ep, ei) refl
+    → u.image ≡ image → u.head.support ≡ 0 → parts ≡ thin.parts image 0
+    → refusal_with thin m u parts ≡ refusal thin m u
+parts_read image m u parts ei es ep =
+    ap (refusal_with thin m u)
+    (ep ∙ sym (ap (λ (l : List ℕ). thin.parts l 0) ei)
+    ∙ sym (ap (thin.parts u.image) es))
 
-one_of_three : (a b c : Bool) → (a || b || (c || true)) ≡ true
-one_of_three true b c = refl
-one_of_three false true c = refl
-one_of_three false false true = refl
-one_of_three false false false = refl
+-- no image of support 0 has a dependency section
+pub no_section : (image : List ℕ)
+    → [] ≡ unwrap_or (option_map (λ (p : Parts). p.dependency) (thin.parts image 0)) []
+no_section image = by (first_refusal (head_rows image 0 0))
+  where
+    by : (r : Option (ℕ × PartWhy))
+        → [] ≡ unwrap_or (option_map (λ (p : Parts). p.dependency)
+        (option_map machine_parts (cond (is_some r) None (Some (parts_at image 0 0))))) []
+    by None = refl
+    by (Some x) = refl
 
-all_go_on : (m : Machine) (d version : ℕ) (qs : List (ℕ × DeviceValue))
-    → list_all (λ q. goes_on_holding thin m d version q.0) qs ≡ true
-all_go_on m d version [] = refl
-all_go_on m d version (q ∷ qs) =
-    let section : List ℕ = dependency_of m.board m.list q.0 in
-    ap (λ b. b && list_all (λ (x : ℕ × DeviceValue). goes_on_holding thin m d version x.0) qs)
-    (one_of_three (q.0 == d) (not (holds thin section (versions_of m.board m.list)))
-    (length section == 0))
-    ∙ all_go_on m d version qs
+pub none_due : (image : List ℕ) (p : Parts) → Some p ≡ thin.parts image 0 → p.dependency ≡ []
+none_due image p e =
+    ap (λ (o : Option Parts). unwrap_or (option_map (λ (q : Parts). q.dependency) o) []) e
+    ∙ sym (no_section image)
 
--- where there is no dependency section to ask for, all hold
-pub dependencies_hold : (m : Machine) (d : ℕ) (p : PlainParts)
-    → keeps_dependencies thin m d (parts_of p) ≡ true
-dependencies_hold m d p = all_go_on m d p.version (enumerate_from 0 m.board.devices)
+-- an image that is not split has none
+pub refused_none : (image : List ℕ) (e : PartRefusal) → IsBytes image → IsRefusalOf e image 0
+    → (e ≡ Memory → IsTrue (has_section 0)) → None ≡ thin.parts image 0
+refused_none image (Part fault) is refused memory =
+    sym ((no_parts_seen image 0 is).1 (fault.at, fault.why, refused))
+refused_none image Memory is refused memory = absurd (let due = memory refl in cc)
+
+-- on a board of one device an image without a section keeps all dependencies
+keeps_on : (m : Machine) (devices : List DeviceValue) (p : Parts) → m.board.devices ≡ devices
+    → (length devices == 1) ≡ true → p.dependency ≡ [] → keeps_dependencies thin m 0 p ≡ true
+keeps_on m [] p e one none = absurd cc
+keeps_on m (d ∷ []) p e one none = rw (e, none) refl
+keeps_on m (d ∷ f ∷ rest) p e one none = absurd (two_not_one (length rest) one)
+
+pub dependencies_hold : (m : Machine) (board : BoardValue) (d : ℕ) (p : Parts) → m.board ≡ board
+    → IsTrue (has_one_device board) → d ≡ 0 → p.dependency ≡ []
+    → keeps_dependencies thin m d p ≡ true
+dependencies_hold m board d p eb one ed none =
+    ap (λ (n : ℕ). keeps_dependencies thin m n p) ed
+    ∙ keeps_on m board.devices p (ap (λ (b : BoardValue). b.devices) eb) one none

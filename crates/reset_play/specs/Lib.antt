@@ -8,5 +8,6 @@ pub mod ScriptText
 pub mod ScriptWords
 pub mod Texts
 pub mod Thin
+pub mod ThinCapsules
 pub mod ThinValues
 pub mod Whole

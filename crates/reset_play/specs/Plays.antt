@@ -1,6 +1,6 @@
 -- A play on lists: a board of one device, and a script whose events are drop, signal and boot, over
 -- thin inputs.
-use Rattle.std.specs.Prelude.{ℕ, Bool, true, false, ◌&&◌, ◌==◌, List, [], map, length, unwrap_or}
+use Rattle.std.specs.Prelude.{ℕ, Bool, true, false, ◌&&◌, ◌==◌, List, [], length, unwrap_or}
 use Rattle.std.specs.List.{list_any}
 use Rattle.bench_model.specs.Boards.{BoardValue}
 use Rattle.cu_io.specs.Named.{Named, bytes_named}
@@ -9,7 +9,7 @@ use Rattle.reference_machine.specs.declared.event.Event.TheVariants.{Time, Drop,
 use Rattle.reference_machine.specs.declared.event.Event.TheVariants.{Stage, Boot, Arm, Fail, Reset}
 use Rattle.reference_machine.specs.declared.event.Event.TheVariants.{Show}
 use Rattle.reference_machine.specs.Deliveries.{is_target}
-use Rattle.reference_machine.specs.Events.{Act, act_of, trace_of}
+use Rattle.reference_machine.specs.Events.{trace_of}
 use Rattle.reference_machine.specs.Machine.{fresh}
 use Rattle.reset_play.specs.Thin.{thin, thin_item, is_thin}
 use Rattle.reference_machine.specs.TraceValues.{EntryValue}
@@ -54,10 +54,6 @@ can_play board named (Fail nth) = false
 can_play board named (Reset cold) = false
 can_play board named Show = false
 
--- the events with the bytes of their inputs
-abbrev pub acts_of : Named → List Event → List Act
-acts_of named events = map (act_of (loaded_bytes named)) events
-
 -- what the reference machine tells of the events, from a fresh board
 abbrev pub thin_trace : BoardValue → Named → List Event → List EntryValue
-thin_trace board named events = trace_of thin (fresh board) (acts_of named events)
+thin_trace board named events = trace_of thin (loaded_bytes named) (fresh board) events

@@ -7,7 +7,7 @@ use Rattle.reference_machine.specs.declared.event.Event.{Event}
 use Rattle.reference_machine.specs.declared.event.Event.TheVariants as events
 use Rattle.bench_model.specs.Boards.{BoardValue}
 use Rattle.bench_model.specs.Devices.{DeviceValue}
-use Rattle.reference_machine.specs.Events.{act_of, trace_of}
+use Rattle.reference_machine.specs.Events.{trace_of}
 use Rattle.reference_machine.specs.Machine.{fresh}
 use Rattle.reset_play.specs.Texts.{trace_text}
 use Rattle.reset_play.specs.Thin.{thin}
@@ -94,7 +94,7 @@ abbrev pub sample_text : ℕ → List Event → List ℕ
 sample_text result_max script =
     trace_text (sample_board result_max) script
     (map (λ said. said.answer)
-    (trace_of thin (fresh (sample_board result_max)) (map (act_of bytes_of) script)))
+    (trace_of thin bytes_of (fresh (sample_board result_max)) script))
 
 -- a file of an equal upper-cased name is replaced; the same bytes delivered again are another
 -- delivery

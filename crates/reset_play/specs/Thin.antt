@@ -1,12 +1,12 @@
 -- Thin deliveries: one FMP capsule with HeaderSize 28, no driver, one image of header version 3, no
 -- byte before the item and none behind its vendor code, and neither authentication data nor
--- dependencies (UEFI 2.10, 8.5.3 and 23.3; the payload header is EDK II's FmpPayloadHeader).
-use Rattle.std.specs.Prelude.{ℕ, Bool, true, ◌+◌, ◌==◌, ◌&&◌, ◌||◌, not, nat_lt, nat_le, List, []}
-use Rattle.std.specs.Prelude.{◌∷◌, length, drop, bytes_eq, Option, None, Some, if◌then◌else◌}
+-- dependencies (UEFI 2.10, 8.5.3 and 23.3).
+use Rattle.std.specs.Prelude.{ℕ, Bool, ◌+◌, ◌==◌, ◌&&◌, nat_le, List, [], ◌∷◌, length, bytes_eq}
 use Rattle.cu_base.specs.Fields.{field, number_at}
+use Rattle.cu_base.specs.declared.limits.TheConstants.{MAX_CAPSULE_BYTES}
 use Rattle.reference_machine.specs.Deliveries.{fmp_guid}
-use Rattle.reference_machine.specs.Formats.{Item, Capsule, Parts, Formats}
-use Rattle.scatter_list.specs.Coalesced.{coalesced_of}
+use Rattle.reference_machine.specs.Formats.{Item, Capsule, Formats}
+use Rattle.delivery_formats.specs.TrueFormats.{true_formats}
 
 -- the capsule header: the GUID at 0, HeaderSize at 16, CapsuleImageSize at 24
 abbrev pub has_thin_header : List ℕ → Bool
@@ -25,9 +25,11 @@ has_thin_image b =
     number_at b 44 4 == 3 && number_at b 84 8 == 0
     && 92 + number_at b 68 4 + number_at b 72 4 == length b
 
--- the bytes are a thin delivery
+-- the bytes are a thin delivery, which is no longer than a capsule may be
 abbrev pub is_thin : List ℕ → Bool
-is_thin b = nat_le 92 (length b) && has_thin_header b && has_thin_body b && has_thin_image b
+is_thin b =
+    nat_le 92 (length b) && nat_le (length b) MAX_CAPSULE_BYTES && has_thin_header b
+    && has_thin_body b && has_thin_image b
 
 -- the item of a thin delivery: type at 48, index at 64, instance at 76, image from 92 on
 abbrev pub thin_item : List ℕ → Item
@@ -43,37 +45,9 @@ thin_item b = record {
 }
 
 -- the one capsule of a thin delivery
-abbrev pub thin_capsules : List ℕ → Option (List Capsule)
-thin_capsules b =
-    if is_thin b then Some (record { guid = fmp_guid; drivers = 0; items = thin_item b ∷ [] } ∷ [])
-    else None
+abbrev pub thin_capsule : List ℕ → Capsule
+thin_capsule b = record { guid = fmp_guid; drivers = 0; items = thin_item b ∷ [] }
 
--- the payload header of an image of support 0 is refused: fewer than 16 bytes, another signature
--- than `MSS1`, or a HeaderSize below 16 or above the image
-abbrev pub is_refused : List ℕ → Bool
-is_refused image =
-    nat_lt (length image) 16 || not (bytes_eq (field image 0 4) (0x4D ∷ 0x53 ∷ 0x53 ∷ 0x31 ∷ []))
-    || nat_lt (number_at image 4 4) 16 || nat_lt (length image) (number_at image 4 4)
-
--- the parts of an image of support 0: FwVersion at 8, LowestSupportedVersion at 12, the payload
--- behind the header
-abbrev pub plain_parts : List ℕ → ℕ → Option Parts
-plain_parts image support =
-    if is_refused image
-    then None
-    else Some (record {
-      version = number_at image 8 4;
-      lowest = number_at image 12 4;
-      dependency = [];
-      payload = drop (number_at image 4 4) image;
-    })
-
--- the formats as far as thin deliveries by file need them: there is no dependency section to ask
--- for
+-- what a boot reads of thin deliveries is what it reads of all
 abbrev pub thin : Formats
-thin = record {
-  capsules = thin_capsules;
-  parts = plain_parts;
-  is_satisfied = λ section versions. true;
-  coalesced = coalesced_of;
-}
+thin = true_formats

@@ -2,13 +2,16 @@
 use Rattle.std.specs.Prelude.{ℕ, List, [], Option, None, Some, if◌then◌else◌}
 use Rattle.cu_base.specs.declared.guid.Guid.{Guid}
 use Rattle.reset_play.specs.declared.thin_play.delivery.ThinItem.{ThinItem}
-use Rattle.reset_play.specs.declared.thin_play.delivery.PlainParts.{PlainParts}
+use Rattle.image_parts.specs.declared.value.Parts.{Parts}
+use Rattle.image_parts.specs.Values.{parts_seen}
 use Rattle.reset_play.specs.declared.thin_play.spent.Standing.{Standing}
 use Rattle.reset_play.specs.declared.thin_play.spent.Standing.TheVariants as standing
 use Rattle.reference_machine.specs.declared.unit.Kind.TheVariants.{Try}
 use Rattle.reference_machine.specs.declared.unit.UnitKey.{UnitKey}
 use Rattle.reference_machine.specs.Deliveries.{fmp_guid}
-use Rattle.reference_machine.specs.Formats.{ItemHead, Item, Parts}
+use Rattle.reference_machine.specs.Formats as machine
+use Rattle.reference_machine.specs.Formats.{ItemHead, Item}
+use Rattle.delivery_formats.specs.Seen.{machine_parts}
 use Rattle.reference_machine.specs.Machine.{first_moment}
 use Rattle.reference_machine.specs.Spent as spent
 use Rattle.reference_machine.specs.Spent.{Element}
@@ -32,14 +35,9 @@ item_of t = record { head = thin_head t.type_id t.index t.instance; image = t.im
 abbrev pub thin_said : List ℕ → Option Item
 thin_said bytes = if is_thin bytes then Some (thin_item bytes) else None
 
--- the parts that a value says, without a dependency section
-abbrev pub parts_of : PlainParts → Parts
-parts_of p = record {
-  version = p.version;
-  lowest = p.lowest;
-  dependency = [];
-  payload = p.payload.now;
-}
+-- the parts that a value says, as the machine sees them
+abbrev pub parts_of : Parts → machine.Parts
+parts_of p = machine_parts (parts_seen p)
 
 -- what a standing says: no event of a play on lists moves the clock
 abbrev pub standing_of : Standing → spent.Standing

@@ -10,7 +10,8 @@ use Rattle.reference_machine.specs.declared.unit.End.TheVariants.{Sealed}
 use Rattle.reference_machine.specs.declared.unit.Kind.TheVariants.{Try, Heal}
 use Rattle.reference_machine.specs.declared.unit.UnitKey.{UnitKey}
 use Rattle.reference_machine.specs.Boots.{BootTask, BootState, after, next}
-use Rattle.reference_machine.specs.Boots.BootTask.{Settles, Does, Removes}
+use Rattle.reference_machine.specs.Boots.BootBatch.{Settles, Does}
+use Rattle.reference_machine.specs.Boots.BootTask.{Commits, Removes}
 use Rattle.reference_machine.specs.Deliveries.{BootUnit, fmp_guid}
 use Rattle.reference_machine.specs.Formats.{Formats, Item}
 use Rattle.bench_model.specs.Files.{File}
@@ -58,7 +59,7 @@ file_unit x = record {
 -- the work on such a file, by whether its unit is spent
 abbrev pub marked_tasks : File → Bool → List BootTask
 marked_tasks x is_spent =
-    (if is_spent then [] else Does (file_unit x) ∷ []) ++ Removes x.serial ∷ []
+    (if is_spent then [] else Commits (Does (file_unit x)) ∷ []) ++ Removes x.serial ∷ []
 
 -- the work on such files, with a mark for each
 abbrev pub all_marked_tasks : List File → List Bool → List BootTask
@@ -73,7 +74,7 @@ marks_of list files = map (λ x. not (spent list x.serial == 0)) files
 -- what is open is settled first
 abbrev pub heal_tasks : Option Element → List BootTask
 heal_tasks None = []
-heal_tasks (Some e) = Settles Heal Sealed ∷ []
+heal_tasks (Some e) = Commits (Settles Heal Sealed) ∷ []
 
 -- the element that is open, if any, as the rest of a list
 abbrev pub open_rest : Option Element → List Element

@@ -10,7 +10,7 @@ mod text;
 mod thin_play;
 
 use cu_base::Items;
-pub use laws::{sample_plays, thin_deliveries_keep_limits};
+pub use laws::{sample_plays, thin_deliveries_are_capsules};
 pub use reference_machine::{
     Answer, BootEnd, CapsuleResult, End, Entry, EsrtEntry, Event, FmpResult, FolderFile, Kind,
     MAX_FILES, MAX_FOLDER_BYTES, MAX_MEMORY_BYTES, MAX_SEGMENTS, MAX_STAGED, Report, ResultVar,

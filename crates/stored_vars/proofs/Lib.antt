@@ -1,3 +1,7 @@
+pub mod Alike
+pub mod Entries
+pub mod Frames
+pub mod Kept
 pub mod LastLemmas
 pub mod OtherLaws
 pub mod ProgressLaws
@@ -5,4 +9,5 @@ pub mod ProgressLemmas
 pub mod RecordLaws
 pub mod RecordLemmas
 pub mod Same
+pub mod Sorting
 pub mod VariableLaws

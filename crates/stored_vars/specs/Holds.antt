@@ -77,11 +77,13 @@ indications_of variables =
 abbrev pub is_asked : Variables → Bool
 is_asked variables = indications_of variables / 4 % 2 == 1
 
+-- the delivery that a variable of this number keeps
+abbrev pub staged_at : Variables → ℕ → Option StagedPair
+staged_at variables k = option_and_then pair_in (bytes_in variables (Stage k))
+
 -- the deliveries that wait in memory, by the numbers of their variables
 abbrev pub pairs_of : Variables → List StagedPair
-pairs_of variables =
-    filter_map (λ k. option_and_then pair_in (bytes_in variables (Stage k)))
-    (range_with_len 0 MAX_STAGE_VARIABLES)
+pairs_of variables = filter_map (staged_at variables) (range_with_len 0 MAX_STAGE_VARIABLES)
 
 -- the same by rising serials
 abbrev pub staged_of : Variables → List StagedPair

@@ -1,16 +1,15 @@
 -- A delivery by memory (UEFI 2.10, 8.5.3): when it is taken, and the batch that stages it.
 use Rattle.std.specs.Prelude.{◌≡◌, ◌⊎◌, ℕ, ◌+◌, ◌-◌, ◌^◌, true, List, [], ◌∷◌, find, nat_le}
-use Rattle.std.specs.Prelude.{is_none, Option, Some, None, Result, Ok, Err, option_and_then}
+use Rattle.std.specs.Prelude.{is_none, Option, Some, None, Result, Ok, Err}
 use Rattle.std.specs.Prelude.{option_map, if◌then◌else◌}
 use Rattle.std.specs.List.{range_with_len}
 use Rattle.bench_model.specs.Bench.{BenchValue}
 use Rattle.reference_machine.specs.Events.{coalesced_refusal}
 use Rattle.reference_machine.specs.TraceValues.{AnswerValue}
 use Rattle.reference_machine.specs.TraceValues.AnswerValue.{Invalid, Unsupported}
-use Rattle.reference_machine.specs.declared.snapshot.StagedPair.{StagedPair}
 use Rattle.scatter_list.specs.Coalesced.{coalesced_of}
-use Rattle.stored_vars.specs.Holds.{bytes_in, last_staged_of}
-use Rattle.stored_vars.specs.Numbers.{number_bytes, pair_bytes, pair_in}
+use Rattle.stored_vars.specs.Holds.{last_staged_of, staged_at}
+use Rattle.stored_vars.specs.Numbers.{number_bytes, pair_bytes}
 use Rattle.stored_vars.specs.Variables.{attributes_of, guid_of, name_of}
 use Rattle.stored_vars.specs.declared.limits.TheConstants.{MAX_STAGE_VARIABLES}
 use Rattle.stored_vars.specs.declared.variable.StoredVar.TheVariants.{Stage}
@@ -40,10 +39,6 @@ ChecksAs refusal (Err inbox.Flash) = ⊥
 ChecksAs refusal (Err inbox.Volume) = ⊥
 ChecksAs refusal (Err inbox.NoBank) = ⊥
 ChecksAs refusal (Err inbox.Memory) = Unit {0}
-
--- the delivery that a variable of this number keeps
-abbrev pub staged_at : Variables → ℕ → Option StagedPair
-staged_at variables k = option_and_then pair_in (bytes_in variables (Stage k))
 
 -- the first variable that keeps no delivery
 abbrev pub free_stage : Variables → Option ℕ

@@ -4,11 +4,13 @@
 
 mod checks;
 mod fault;
+mod laws;
 mod opening;
 mod request;
 mod sets;
 mod staging;
 
 pub use fault::InboxFault;
+pub use laws::{a_delivery_is_staged, a_signal_asks_for_files};
 pub use request::signal;
 pub use staging::update_capsule;

@@ -2,11 +2,11 @@
 
 ghost use Rattle.std.specs.Prelude.{◌≡◌, ◌+◌, ◌≤◌, ◌<◌, IfOk, OnOk, OnErr, IfSome, true};
 ghost use Rattle.cu_base.specs.Causes.{HasCauseOf};
-ghost use Rattle.stored_vars.specs.Holds.{last_staged_of};
+ghost use Rattle.stored_vars.specs.Holds.{last_staged_of, staged_at};
 ghost use Rattle.update_inbox.specs.Answers.{NotesBatch, NotesOpened, NotesOpening};
 ghost use Rattle.update_inbox.specs.Batches.{HasStored, MayHaveStored};
 ghost use Rattle.update_inbox.specs.Staging.{StagingAnswers, batch_of, free_stage, next_delivery};
-ghost use Rattle.update_inbox.specs.Staging.{StagingMoves, stage_batch, staged_at};
+ghost use Rattle.update_inbox.specs.Staging.{StagingMoves, stage_batch};
 ghost use Rattle.var_log.specs.Logs.{ChangesBanks, HasBanks};
 ghost use Rattle.var_store.specs.Stores.{variables_of};
 

@@ -1,17 +1,18 @@
 //! The attempt of a thin file.
 
-ghost use Rattle.std.specs.Prelude.{◌≡◌, [], IfOk, IsTrue, option_map, unwrap_or};
+ghost use Rattle.std.specs.Prelude.{◌≡◌, ◌<◌, ◌^◌, [], IfOk, IsTrue, length, option_map, unwrap_or};
 ghost use Rattle.reference_machine.specs.Boots.{element_of};
 ghost use Rattle.reference_machine.specs.Spent.Standing.{Open};
-ghost use Rattle.reset_play.specs.Thin.{thin, is_thin, thin_item, plain_parts};
-ghost use Rattle.reset_play.specs.ThinValues.{item_of};
+ghost use Rattle.reset_play.specs.Thin.{thin, is_thin, thin_item};
+ghost use Rattle.reset_play.specs.ThinValues.{item_of, parts_of};
 ghost use Rattle.reset_play.specs.Whole.{file_key, file_unit};
 
-use super::delivery::{PlainParts, ThinItem, read_parts, read_thin};
+use super::delivery::{ThinItem, read_thin};
 use super::folder::StoredFile;
 use super::spent::{SpentTry, Standing};
 use crate::UnitKey;
 use cu_base::{NoMemory, Text, Ticket};
+use image_parts::Parts;
 use std::alloc::Global;
 
 // The key of the file's one unit.
@@ -33,29 +34,27 @@ fn key_of(alloc: Global, file: &StoredFile<'_>) -> Result<UnitKey, NoMemory>
     })
 }
 
-// The parts of an image: 0, 0 and nothing where it has none.
-fn parts_of(image: &[u8]) -> PlainParts<'_>
-    ensures version { result.version
-        ≡ unwrap_or (option_map (λ p. p.version) (plain_parts image.now 0)) 0 }
-    ensures lowest { result.lowest
-        ≡ unwrap_or (option_map (λ p. p.lowest) (plain_parts image.now 0)) 0 }
-    ensures payload { result.payload.now
-        ≡ unwrap_or (option_map (λ p. p.payload) (plain_parts image.now 0)) [] }
+// Version, lowest supported version and payload of an image: 0, 0 and nothing where it has no
+// parts.
+fn told_by<'a>(parts: &Option<Parts<'a>>) -> (u32, u32, &'a [u8])
+    ensures version { result.0
+        ≡ unwrap_or (option_map (λ p. p.version) (option_map parts_of parts.now)) 0 }
+    ensures lowest { result.1
+        ≡ unwrap_or (option_map (λ p. p.lowest) (option_map parts_of parts.now)) 0 }
+    ensures payload { (result.2).now
+        ≡ unwrap_or (option_map (λ p. p.payload) (option_map parts_of parts.now)) [] }
 {
-    match read_parts(image) {
-        Some(parts) => parts,
-        None => PlainParts {
-            version: 0,
-            lowest: 0,
-            payload: &[],
-        },
+    match parts {
+        Some(parts) => (parts.head.version, parts.head.lowest, parts.payload),
+        None => (0, 0, &[]),
     }
 }
 
 /// The item of a thin file.
 pub fn item_in(bytes: &[u8]) -> ThinItem<'_>
     requires { IsTrue (is_thin bytes.now) }
-    ensures { item_of result ≡ thin_item bytes.now }
+    ensures value { item_of result ≡ thin_item bytes.now }
+    ensures bound { length result.image.now < 2 ^ 32 }
 {
     match read_thin(bytes) {
         Some(item) => item,
@@ -63,25 +62,27 @@ pub fn item_in(bytes: &[u8]) -> ThinItem<'_>
     }
 }
 
-/// The attempt of the one unit of a thin file, still open.
+/// The attempt of the one unit of a thin file, still open, by the parts of its image.
 pub fn attempt_of<'a>(
     alloc: Global,
     file: &StoredFile<'a>,
     item: &ThinItem<'a>,
+    parts: &Option<Parts<'a>>,
 ) -> Result<SpentTry<'a>, NoMemory>
-    requires { item_of item.now ≡ thin_item (file.now).bytes }
+    requires item { item_of item.now ≡ thin_item (file.now).bytes }
+    requires parts { option_map parts_of parts.now ≡ thin.parts (item_of item.now).image 0 }
     ensures { IfOk result (λ attempt. attempt ≡ element_of thin (file_unit file.now) Open) }
 {
     let key = key_of(alloc, file)?;
-    let parts = parts_of(item.image);
+    let (version, floor, payload) = told_by(parts);
     Ok(SpentTry {
         key,
         type_id: item.type_id,
         index: item.index,
         instance: item.instance,
-        version: parts.version,
-        floor: parts.lowest,
-        payload: parts.payload,
+        version,
+        floor,
+        payload,
         standing: Standing::Open,
     })
 }

@@ -1,26 +1,22 @@
-//! What a thin delivery says, and what its image does.
+//! What a thin delivery says, and the parts of its image.
 
-ghost use Rattle.std.specs.Prelude.{◌≡◌, ◌≤◌, ℕ, length, option_map};
+ghost use Rattle.std.specs.Prelude.{◌≡◌, ◌≤◌, ◌<◌, ◌^◌, length, option_map};
 ghost use Rattle.std.specs.List.{list_any};
 ghost use Rattle.reference_machine.specs.Deliveries.{is_target};
 ghost use Rattle.reset_play.specs.Plays.{is_thin_on};
 ghost use Rattle.reset_play.specs.Thin.{has_thin_header, has_thin_body, has_thin_image, is_thin};
-ghost use Rattle.reset_play.specs.Thin.{is_refused, plain_parts};
+ghost use Rattle.reset_play.specs.Thin.{thin};
 ghost use Rattle.reset_play.specs.ThinValues.{item_of, thin_said, parts_of};
 
 use bench_model::{Board, Device};
-use cu_base::{Guid, guid_at, u16_at, u32_at, u64_at};
+use cu_base::{Guid, MAX_CAPSULE_BYTES, guid_at, u16_at, u32_at, u64_at};
 use fmp_headers::FMP_CAPSULE_GUID;
+use image_parts::{Parts, split};
+use std::alloc::Global;
 
 /// The bytes before the image of a thin delivery: a capsule header, an FMP header with one offset
 /// and an image header of version 3.
 pub const THIN_HEADER_BYTES: usize = 92;
-
-/// The fewest bytes of a payload header: signature, size, version and lowest supported version.
-pub const PAYLOAD_HEADER_BYTES: usize = 16;
-
-/// The signature of a payload header.
-pub const PAYLOAD_SIGNATURE: [u8; 4] = *b"MSS1";
 
 /// What a thin delivery says.
 #[derive(Clone, Copy)]
@@ -33,17 +29,6 @@ pub struct ThinItem<'a> {
     pub instance: u64,
     /// The update image.
     pub image: &'a [u8],
-}
-
-/// The parts of an update image of support 0.
-#[derive(Clone, Copy)]
-pub struct PlainParts<'a> {
-    /// FwVersion of the payload header.
-    pub version: u32,
-    /// LowestSupportedVersion of the payload header.
-    pub lowest: u32,
-    /// What stands behind the payload header.
-    pub payload: &'a [u8],
 }
 
 // Whether GUID, HeaderSize and CapsuleImageSize of the capsule header are those of a thin delivery.
@@ -84,6 +69,7 @@ fn is_thin(bytes: &[u8]) -> bool
     ensures { result ≡ is_thin bytes.now }
 {
     THIN_HEADER_BYTES <= bytes.len()
+        && bytes.len() <= MAX_CAPSULE_BYTES as usize
         && has_thin_header(bytes)
         && has_thin_body(bytes)
         && has_thin_image(bytes)
@@ -131,27 +117,14 @@ fn has_target(item: &ThinItem<'_>, devices: &[Device]) -> bool
     devices.iter().any(|device| is_target(item, device))
 }
 
-// Whether the payload header of the image is refused.
-fn is_refused(image: &[u8]) -> bool
-    ensures { result ≡ is_refused image.now }
+/// The parts of an update image of support 0, None exactly where it is refused: `split` takes no
+/// memory where no section is due.
+pub fn parts_in(alloc: Global, image: &[u8]) -> Option<Parts<'_>>
+    requires { length image.now < 2 ^ 32 }
+    ensures { option_map parts_of result ≡ thin.parts image.now 0 }
 {
-    image.len() < PAYLOAD_HEADER_BYTES
-        || &image[..4] != PAYLOAD_SIGNATURE.as_slice()
-        || (u32_at(image, 4) as usize) < PAYLOAD_HEADER_BYTES
-        || image.len() < u32_at(image, 4) as usize
-}
-
-/// The parts of an update image of support 0. None exactly where its payload header is refused.
-pub fn read_parts(image: &[u8]) -> Option<PlainParts<'_>>
-    ensures { (support : ℕ) → option_map parts_of result ≡ plain_parts image.now support }
-{
-    if is_refused(image) {
-        return None;
+    match split(alloc, image, 0) {
+        Ok(parts) => Some(parts),
+        Err(_) => None,
     }
-    let size = u32_at(image, 4) as usize;
-    Some(PlainParts {
-        version: u32_at(image, 8),
-        lowest: u32_at(image, 12),
-        payload: &image[size..],
-    })
 }

@@ -4,8 +4,7 @@ ghost use Rattle.std.specs.Prelude.{◌≡◌, ◌≤◌, ◌-◌, ◌^◌, min,
 ghost use Rattle.std.specs.Prelude.{OnOk, OnErr, position};
 ghost use Rattle.std.specs.List.{list_any, position_or_len};
 ghost use Rattle.reference_machine.specs.Boots.{is_file};
-ghost use Rattle.reference_machine.specs.Events.{bytes_beside};
-ghost use Rattle.bench_model.specs.Files.{is_same_name};
+ghost use Rattle.bench_model.specs.Files.{bytes_in, is_same_name, others_than};
 ghost use Rattle.reference_machine.specs.Names.{is_taken_before};
 ghost use Rattle.reference_machine.specs.Order.{in_order, inserted};
 
@@ -89,8 +88,8 @@ fn bytes_but(file: &StoredFile<'_>, name: &str) -> usize
 
 /// How many bytes the files of other names have, up to the greatest number.
 #[tactic(auto, using(crate::proofs::FolderLemmas::bytes_more))]
-pub fn bytes_beside(files: &[StoredFile<'_>], name: &str) -> usize
-    ensures { result ≡ min (bytes_beside files.now name.now) (2 ^ 64 - 1) }
+pub fn bytes_of_others(files: &[StoredFile<'_>], name: &str) -> usize
+    ensures { result ≡ min (bytes_in (others_than name.now files.now)) (2 ^ 64 - 1) }
 {
     let mut sum = 0usize;
     for file in files {

@@ -5,16 +5,14 @@ mod folder_work;
 mod steps;
 
 ghost use Rattle.std.specs.Prelude.{◌≡◌, ◌≤◌, ◌+◌, ◌++◌, ◌∷◌, [], ◌^◌, ◌<◌, ◌-◌, false, IsTrue};
-ghost use Rattle.std.specs.Prelude.{not, filter, IfOk, OnOk, OnErr};
-ghost use Rattle.reference_machine.specs.Events.Act.{Drop, Signal};
-ghost use Rattle.reference_machine.specs.Events.{outcome, plain, is_folder_full};
-ghost use Rattle.reference_machine.specs.Machine.{fresh};
-ghost use Rattle.bench_model.specs.Files.{is_same_name};
+ghost use Rattle.std.specs.Prelude.{not, filter, length, IfOk, OnOk, OnErr};
+ghost use Rattle.bench_model.specs.Files.{is_folder_full, is_same_name};
+ghost use Rattle.reference_machine.specs.Events.{dropped, plain, requested};
+ghost use Rattle.reference_machine.specs.Machine.{folder_of, fresh};
 ghost use Rattle.reset_play.specs.Plays.{has_one_device, is_thin_on};
-ghost use Rattle.reset_play.specs.Thin.{thin};
 ghost use Rattle.reference_machine.specs.TraceValues.{answer_value, entry_value};
 
-use super::folder::{StoredFile, bytes_beside, has_file};
+use super::folder::{StoredFile, bytes_of_others, has_file};
 use super::spent::{SpentTries, SpentTry};
 use crate::{Answer, Entry, MAX_FILES, MAX_FOLDER_BYTES, Serials};
 use bench_model::{Board, is_same_name};
@@ -82,13 +80,13 @@ impl<'a> ListPlatform<'a> {
 
     // Whether the folder does not take a file.
     fn is_full(&self, name: &Text, bytes: &[u8]) -> bool
-        ensures value { result ≡ is_folder_full self.now name.now bytes.now }
+        ensures value { result ≡ is_folder_full (folder_of self.now) name.now (length bytes.now) }
         ensures bound { result ≡ false → self.now.last_file < 2 ^ 64 - 1 }
     {
         let is_known = has_file(&self.files, name.as_str());
         let is_crowded = self.files.len() >= MAX_FILES;
-        let sum = bytes_beside(&self.files, name.as_str()).saturating_add(bytes.len());
-        is_crowded && !is_known || (sum > MAX_FOLDER_BYTES as usize || self.last_file == u64::MAX)
+        let sum = bytes_of_others(&self.files, name.as_str()).saturating_add(bytes.len());
+        is_crowded && !is_known || sum > MAX_FOLDER_BYTES as usize || self.last_file == u64::MAX
     }
 
     /// Puts a thin file that has a target into the folder.
@@ -101,7 +99,7 @@ impl<'a> ListPlatform<'a> {
         requires { IsTrue (is_thin_on self.old.board bytes.now) }
         ensures ok { IfOk result
             (λ entry. (entry_value entry, self.new)
-            ≡ outcome thin self.old (Drop name.now bytes.now)) }
+            ≡ dropped self.old name.now bytes.now) }
         ensures frame { self.new.board ≡ self.old.board }
         ensures counts { self.new.batches ≡ self.old.batches }
     {
@@ -121,7 +119,7 @@ impl<'a> ListPlatform<'a> {
     /// Asks for the files to be taken at the next boot.
     pub fn signal(&mut self) -> Entry
         requires { self.old.batches ≤ 2 ^ 63 }
-        ensures value { (entry_value result, self.new) ≡ outcome thin self.old Signal }
+        ensures value { (entry_value result, self.new) ≡ requested self.old }
         ensures frame { self.new.board ≡ self.old.board }
         ensures counts { self.new.batches ≤ self.old.batches + 1 }
     {

@@ -3,12 +3,14 @@
 ghost use Rattle.std.specs.Prelude.{◌≡◌, ◌≤◌, ◌+◌, ◌^◌, ℕ, ◌++◌, IsTrue, length, take, map, OnOk};
 ghost use Rattle.std.specs.Prelude.{OnErr, IfOk};
 ghost use Rattle.std.specs.List.{list_all};
-ghost use Rattle.reference_machine.specs.Events.{outcome, act_of, trace_of, machine_after};
-ghost use Rattle.reference_machine.specs.Events.Act.{Drop, Boot};
+ghost use Rattle.reference_machine.specs.Boots.{boot_of};
+ghost use Rattle.reference_machine.specs.Events.{boot_done, dropped, outcome, trace_of};
+ghost use Rattle.reference_machine.specs.Events.{machine_after};
 ghost use Rattle.reset_play.specs.Plays.{has_one_device, can_play, is_thin_on, thin_trace};
-ghost use Rattle.reset_play.specs.Plays.{loaded_bytes, acts_of};
+ghost use Rattle.reset_play.specs.Plays.{loaded_bytes};
 ghost use Rattle.reset_play.specs.Thin.{thin};
 ghost use Rattle.reference_machine.specs.TraceValues.{entry_value};
+ghost use Rattle.reference_machine.specs.declared.unit.End.TheVariants.{Sealed};
 
 use super::platform::ListPlatform;
 use crate::{Answer, BootEnd, Entry, Event, MAX_EVENTS, Script, Trace};
@@ -58,13 +60,14 @@ pub fn run_events<'a>(
     ensures ok { OnOk result
         (map entry_value trace.new.items
         ≡ map entry_value trace.old.items
-        ++ trace_of thin platform.old (acts_of loaded.now.items events.now)) }
+        ++ trace_of thin (loaded_bytes loaded.now.items) platform.old events.now) }
     ensures value { OnOk result
-        (platform.new ≡ machine_after thin platform.old (acts_of loaded.now.items events.now)) }
+        (platform.new
+        ≡ machine_after thin (loaded_bytes loaded.now.items) platform.old events.now) }
     ensures err { OnErr result
         ((n : ℕ) × (map entry_value trace.new.items
         ≡ map entry_value trace.old.items
-        ++ take n (trace_of thin platform.old (acts_of loaded.now.items events.now)))) }
+        ++ take n (trace_of thin (loaded_bytes loaded.now.items) platform.old events.now))) }
     ensures size { length trace.new.items ≤ length trace.old.items + length events.now }
 {
     for event in events {
@@ -85,7 +88,7 @@ fn answer_of<'a>(
     requires played { IsTrue (can_play platform.old.board loaded.now.items event.now) }
     ensures ok { IfOk result
         (λ entry. (entry_value entry, platform.new)
-        ≡ outcome thin platform.old (act_of (loaded_bytes loaded.now.items) event.now)) }
+        ≡ outcome thin (loaded_bytes loaded.now.items) platform.old event.now) }
     ensures frame { platform.new.board ≡ platform.old.board }
     ensures counts { OnOk result (platform.new.batches ≤ platform.old.batches + 200) }
 {
@@ -108,7 +111,7 @@ fn drop_input<'a>(
     requires { IsTrue (is_thin_on platform.old.board (loaded_bytes loaded.now.items input.now)) }
     ensures ok { IfOk result
         (λ entry. (entry_value entry, platform.new)
-        ≡ outcome thin platform.old (Drop file.now (loaded_bytes loaded.now.items input.now))) }
+        ≡ dropped platform.old file.now (loaded_bytes loaded.now.items input.now)) }
     ensures frame { platform.new.board ≡ platform.old.board }
     ensures counts { platform.new.batches ≡ platform.old.batches }
 {
@@ -122,7 +125,8 @@ fn drop_input<'a>(
 fn boot_answer(platform: &mut ListPlatform<'_>, alloc: Global) -> Result<Entry, NoMemory>
     requires { platform.old.batches ≤ 2 ^ 59 }
     ensures ok { IfOk result
-        (λ entry. (entry_value entry, platform.new) ≡ outcome thin platform.old Boot) }
+        (λ entry. (entry_value entry, platform.new)
+        ≡ boot_done (boot_of thin platform.old Sealed)) }
     ensures frame { platform.new.board ≡ platform.old.board }
     ensures counts { OnOk result (platform.new.batches ≤ platform.old.batches + 200) }
 {

@@ -4,7 +4,8 @@ ghost use Rattle.std.specs.Prelude.{◌≡◌, ◌≤◌, ◌+◌, ◌*◌, ◌^
 ghost use Rattle.std.specs.Prelude.{None, IfOk, OnOk, length, if◌then◌else◌};
 ghost use Rattle.std.specs.List.{list_any, list_all};
 ghost use Rattle.reference_machine.specs.Boots.{is_file, prune_tasks, folder_tasks};
-ghost use Rattle.reference_machine.specs.Boots.BootTask.{Does};
+ghost use Rattle.reference_machine.specs.Boots.BootBatch.{Does};
+ghost use Rattle.reference_machine.specs.Boots.BootTask.{Commits};
 ghost use Rattle.reset_play.specs.Plays.{is_thin_on};
 ghost use Rattle.reference_machine.specs.Spent.{is_open};
 ghost use Rattle.reset_play.specs.Thin.{thin};
@@ -13,6 +14,7 @@ ghost use Rattle.reset_play.specs.Whole.{marked_tasks, all_marked_tasks, marks_o
 
 use super::ListPlatform;
 use crate::thin_play::attempt::{attempt_of, item_in};
+use crate::thin_play::delivery::parts_in;
 use crate::thin_play::folder::{StoredFile, has_serial, ordered_files};
 use crate::thin_play::spent::{SpentTry, Standing, is_file_spent};
 use crate::thin_play::verdict::refusal;
@@ -73,7 +75,8 @@ impl<'a> ListPlatform<'a> {
         requires steps { report.old.steps ≤ 2 ^ 30 }
         ensures ok { OnOk result
             (between_tasks self.new report.new
-            ≡ task_done thin (between_tasks self.old report.old) (Does (file_unit file.now))) }
+            ≡ task_done thin (between_tasks self.old report.old)
+            (Commits (Does (file_unit file.now)))) }
         ensures rule { OnOk result (find is_open self.new.list ≡ None) }
         ensures frame { self.new.board ≡ self.old.board }
         ensures counts { OnOk result
@@ -81,8 +84,9 @@ impl<'a> ListPlatform<'a> {
             × (report.new.steps ≤ report.old.steps + 2)) }
     {
         let item = item_in(file.bytes);
-        let mut attempt = attempt_of(alloc, file, &item)?;
-        match refusal(self.board, self.done.as_slice(), item.image) {
+        let parts = parts_in(alloc, item.image);
+        let mut attempt = attempt_of(alloc, file, &item, &parts)?;
+        match refusal(self.board, self.done.as_slice(), item.image, &parts) {
             Some(status) => {
                 attempt.standing = Standing::Closed(End::Refused(status));
                 self.close(alloc, attempt, report)?;
@@ -111,7 +115,7 @@ impl<'a> ListPlatform<'a> {
         ensures ok { OnOk result
             (between_tasks self.new report.new
             ≡ tasks_done thin (between_tasks self.old report.old)
-            (if is_spent then [] else Does (file_unit file.now) ∷ [])) }
+            (if is_spent then [] else Commits (Does (file_unit file.now)) ∷ [])) }
         ensures rule { OnOk result (find is_open self.new.list ≡ None) }
         ensures frame { self.new.board ≡ self.old.board }
         ensures counts { OnOk result

@@ -5,7 +5,8 @@ ghost use Rattle.std.specs.Prelude.{None, OnOk, IsSome};
 ghost use Rattle.std.specs.List.{list_any};
 ghost use Rattle.reference_machine.specs.Boots.{progress_with, with_element, with_claim};
 ghost use Rattle.reference_machine.specs.Boots.{with_lines, one_step, next_line};
-ghost use Rattle.reference_machine.specs.Boots.BootTask.{Settles, Removes, Clears};
+ghost use Rattle.reference_machine.specs.Boots.BootBatch.{Settles, Clears};
+ghost use Rattle.reference_machine.specs.Boots.BootTask.{Commits, Removes};
 ghost use Rattle.reference_machine.specs.Report.{report_value};
 ghost use Rattle.reference_machine.specs.Spent.{is_open, is_closed};
 ghost use Rattle.reset_play.specs.Thin.{thin};
@@ -115,7 +116,7 @@ impl<'a> ListPlatform<'a> {
         requires steps { report.old.steps ≤ 2 ^ 31 }
         ensures ok { OnOk result
             (between_tasks self.new report.new
-            ≡ task_done thin (between_tasks self.old report.old) (Settles kind Sealed)) }
+            ≡ task_done thin (between_tasks self.old report.old) (Commits (Settles kind Sealed))) }
         ensures rule { OnOk result (find is_open self.new.list ≡ None) }
         ensures frame { self.new.board ≡ self.old.board }
         ensures counts { OnOk result
@@ -157,7 +158,7 @@ impl<'a> ListPlatform<'a> {
         requires batches { self.old.batches ≤ 2 ^ 63 }
         requires steps { report.old.steps ≤ 2 ^ 31 }
         ensures value { between_tasks self.new report.new
-            ≡ task_done thin (between_tasks self.old report.old) Clears }
+            ≡ task_done thin (between_tasks self.old report.old) (Commits Clears) }
         ensures frame { self.new.board ≡ self.old.board }
         ensures counts { (self.new.batches ≡ self.old.batches + 1)
             × (report.new.steps ≡ report.old.steps + 1) }

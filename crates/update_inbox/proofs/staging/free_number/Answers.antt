@@ -1,6 +1,6 @@
 use Rattle.std.proofs.Common.{ℕ, arith, sym, ap, not, ◌∙◌}
 use Rattle.std.specs.Prelude.{is_none}
-use Rattle.update_inbox.specs.Staging.{staged_at}
+use Rattle.stored_vars.specs.Holds.{staged_at}
 use Rattle.var_store.specs.Stores.{variables_of}
 use Rattle.update_inbox.proofs.StageLemmas.{first_is}
 use Rattle.update_inbox.proofs.staging.free_number.Goals as goal

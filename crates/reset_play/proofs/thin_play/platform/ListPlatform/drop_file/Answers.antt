@@ -2,10 +2,9 @@ use Rattle.std.proofs.Common.{◌≡◌, ◌+◌, ◌<◌, ◌∷◌, ◌++◌, 
 use Rattle.std.proofs.Common.{length, sym, ap, subst, ◌∙◌}
 use Rattle.std.specs.List.{list_any}
 use Rattle.bench_model.specs.declared.outside_limits.TheConstants.{MAX_FILES}
-use Rattle.reference_machine.specs.Events.{is_folder_full, plain}
-use Rattle.bench_model.specs.Files.{File}
-use Rattle.reference_machine.specs.Machine.{Machine}
-use Rattle.bench_model.specs.Files.{is_same_name}
+use Rattle.bench_model.specs.Files.{File, is_folder_full, is_same_name}
+use Rattle.reference_machine.specs.Events.{plain}
+use Rattle.reference_machine.specs.Machine.{Machine, folder_of}
 use Rattle.reset_play.specs.Plays.{is_thin_on}
 use Rattle.reference_machine.specs.TraceValues.{entry_value}
 use Rattle.reference_machine.specs.TraceValues.AnswerValue.{Serial}
@@ -25,13 +24,15 @@ pub invariant_of-self-2 : goal.invariant_of-self-2
 invariant_of-self-2 c =
     let name : c.in_ok-from_str.field-0 ≡ c.args.name.now =
     c.in_ok-from_str.ensures ∙ c.as_str.ensures in
-    let full : is_folder_full c.args.self.now c.args.name.now c.args.bytes.now ≡ false =
+    let full : is_folder_full (folder_of c.args.self.now) c.args.name.now (length c.args.bytes.now)
+    ≡ false =
     sym c.is_full.ensures.value ∙ c.if-is_full.false in
     let room : list_any
     (λ (x : File). is_same_name x.name c.in_ok-from_str.field-0) c.self.inside.files.items
     ≡ false → length c.self.inside.files.items < MAX_FILES =
-    λ h. room_left c.self.inside.files.items _ _
-    (subst (λ (m : Machine). is_folder_full m c.args.name.now c.args.bytes.now ≡ false)
+    λ h. room_left c.self.inside.files.items _ _ _
+    (subst (λ (m : Machine). is_folder_full (folder_of m) c.args.name.now
+    (length c.args.bytes.now) ≡ false)
     (sym c.self.view_is) full)
     (subst (λ (n : List ℕ). list_any
     (λ (x : File). is_same_name x.name n) c.self.inside.files.items ≡ false) name h) in
@@ -52,7 +53,8 @@ pub returns-clause-ok : goal.returns-clause-ok
 returns-clause-ok c =
     let name : c.in_ok-from_str.field-0 ≡ c.args.name.now =
     c.in_ok-from_str.ensures ∙ c.as_str.ensures in
-    let full : is_folder_full c.args.self.now c.args.name.now c.args.bytes.now ≡ false =
+    let full : is_folder_full (folder_of c.args.self.now) c.args.name.now (length c.args.bytes.now)
+    ≡ false =
     sym c.is_full.ensures.value ∙ c.if-is_full.false in
     let put : List ℕ → List File =
     λ n. filter (λ (x : File). not (is_same_name x.name n)) c.self.inside.files.items

@@ -3,7 +3,8 @@ use Rattle.cu_base.specs.declared.time.EfiTime.{EfiTime}
 use Rattle.reference_machine.specs.declared.unit.End.TheVariants.{Refused, Sealed}
 use Rattle.reference_machine.specs.declared.unit.Kind.TheVariants.{Try}
 use Rattle.reference_machine.specs.Boots.{BootState, element_of}
-use Rattle.reference_machine.specs.Boots.BootTask.{Settles}
+use Rattle.reference_machine.specs.Boots.BootBatch.{Settles}
+use Rattle.reference_machine.specs.Boots.BootTask.{Commits}
 use Rattle.reference_machine.specs.Formats.{Item}
 use Rattle.bench_model.specs.Files.{File}
 use Rattle.reference_machine.specs.Machine.{Machine, first_moment}
@@ -40,7 +41,7 @@ returns-in_ok-close-in-Some-clause-ok c =
     ap (λ (m : Machine). m.board) (sym c.self.view_is) in
     let image : (file_unit c.args.file.now).image ≡ c.item_in-item.result.image.now =
     ap (λ (x : File). (thin_item x.bytes).image) (sym c.file.view_is)
-    ∙ sym (ap (λ (i : Item). i.image) c.item_in-item.ensures) in
+    ∙ sym (ap (λ (i : Item). i.image) c.item_in-item.ensures.value) in
     let is : refusal thin c.args.self.now (file_unit c.args.file.now) ≡ Some c.in-Some.status =
     sym (c.refusal.ensures c.args.self.now (file_unit c.args.file.now) board list image refl refl)
     ∙ c.in-Some.is in
@@ -71,12 +72,12 @@ returns-in_ok-settle-in-None-clause-ok c =
     ap (λ (m : Machine). m.board) (sym c.self.view_is) in
     let image : (file_unit c.args.file.now).image ≡ c.item_in-item.result.image.now =
     ap (λ (x : File). (thin_item x.bytes).image) (sym c.file.view_is)
-    ∙ sym (ap (λ (i : Item). i.image) c.item_in-item.ensures) in
+    ∙ sym (ap (λ (i : Item). i.image) c.item_in-item.ensures.value) in
     let is : refusal thin c.args.self.now (file_unit c.args.file.now) ≡ None =
     sym (c.refusal.ensures c.args.self.now (file_unit c.args.file.now) board list image refl refl)
     ∙ c.in-None.is in
     c.in_ok-settle-in-None.ensures.ok
-    ∙ ap (λ (b : BootState). task_done thin b (Settles Try Sealed)) c.claim.ensures.value
+    ∙ ap (λ (b : BootState). task_done thin b (Commits (Settles Try Sealed))) c.claim.ensures.value
     ∙ tried_claimed c.args.self.now
     (report_value c.args.report.now) c.args.file.now c.in_ok-attempt.attempt is
     c.in_ok-attempt.ensures

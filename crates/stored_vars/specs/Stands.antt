@@ -1,7 +1,7 @@
 -- What a store stands for: its variables are those of the reference machine, and no others.
-use Rattle.std.specs.Prelude.{◌≡◌, ℕ, ◌<◌, ◌≤◌, ◌==◌, ◌&&◌, true, List, length, find}
+use Rattle.std.specs.Prelude.{◌≡◌, ℕ, ◌<◌, ◌≤◌, ◌==◌, ◌^◌, ◌&&◌, true, List, length, find}
 use Rattle.std.specs.Prelude.{Option, None, Some, option_map, is_some, if◌then◌else◌}
-use Rattle.std.specs.List.{list_any}
+use Rattle.std.specs.List.{AllByRecursion, list_any}
 use Rattle.bench_model.specs.Boards.{BoardValue}
 use Rattle.reference_machine.specs.Boots.{staged_in_order}
 use Rattle.reference_machine.specs.Machine.{Machine}
@@ -51,6 +51,10 @@ units_on m serial =
 abbrev pub units_kept : Variables → ℕ → Option ℕ
 units_kept variables serial =
     option_map (λ e. e.units) (find (λ e. e.serial == serial) (progress_of variables))
+
+-- what is stored of progress has its width: serials below 2^64, fewer than 2^32 spent units of each
+abbrev pub ProgressFits : Machine → Type 0
+ProgressFits m = AllByRecursion (λ s. (s < 2 ^ 64) × (spent m.list s < 2 ^ 32)) m.in_progress
 
 -- a variable of the platform has this GUID and name
 pub record IsPlatforms (guid name : List ℕ) : Type 0 where

@@ -2,9 +2,10 @@
 -- its one item.
 use Rattle.std.proofs.Common.{◌≡◌, ℕ, ◌+◌, ◌-◌, ◌≤◌, true, List, length, take, drop, sym, ap, ◌∙◌}
 use Rattle.std.proofs.Common.{arith}
-use Rattle.std.proofs.lemmas.Bool.{and_parts, and_from, eqb-true, eq-eqb, le-leb}
+use Rattle.std.proofs.lemmas.Bool.{and_parts, and_from, eqb-true, eq-eqb, le-leb, leb-true}
 use Rattle.std.proofs.lemmas.List.{take_all, length-drop, drop-drop}
 use Rattle.cu_base.specs.Fields.{field, number, number_at}
+use Rattle.cu_base.specs.declared.limits.TheConstants.{MAX_CAPSULE_BYTES}
 use Rattle.fmp_headers.specs.CapsuleHeader.{header_size, image_size}
 use Rattle.capsule_grammar.specs.Refusals.{is_fmp_guid, body_of}
 use Rattle.reset_play.specs.Thin.{is_thin}
@@ -35,6 +36,7 @@ pub record AreThinNumbers (b : List ℕ) : Type 0 where
   pub version : number_at b 44 4 ≡ 3
   pub support : number_at b 84 8 ≡ 0
   pub parts : 92 + number_at b 68 4 + number_at b 72 4 ≡ length b
+  pub small : length b ≤ MAX_CAPSULE_BYTES
 
 pub numbers_of : (b : List ℕ) → is_thin b ≡ true → AreThinNumbers b
 numbers_of b e =
@@ -59,6 +61,7 @@ numbers_of b e =
       version = eqb-true _ _ v.0;
       support = eqb-true _ _ v.1;
       parts = eqb-true _ _ p.1;
+      small = leb-true _ _ (and_parts _ _ header.0).1;
     }
 
 pub thin_by : (b : List ℕ) → AreThinNumbers b → is_thin b ≡ true
@@ -71,7 +74,8 @@ thin_by b n =
     (eq-eqb _ _ n.images)) (eq-eqb _ _ n.offset) in
     let image = and_from _ _ (and_from _ _ (eq-eqb _ _ n.version) (eq-eqb _ _ n.support))
     (eq-eqb _ _ n.parts) in
-    and_from _ _ (and_from _ _ (and_from _ _ (le-leb _ _ long) header) body) image
+    let size = and_from _ _ (le-leb _ _ long) (le-leb _ _ n.small) in
+    and_from _ _ (and_from _ _ (and_from _ _ size header) body) image
 
 pub body_behind : (b : List ℕ) → header_size b ≡ 28 → image_size b ≡ length b
     → body_of b ≡ drop 28 b
@@ -118,9 +122,11 @@ item_numbers b n = record {
 pub item_behind : (b : List ℕ) → drop 16 (drop 28 b) ≡ drop 44 b
 item_behind b = drop-drop 16 28 b
 
-pub numbers_by : (b : List ℕ) → is_fmp_guid (field b 0 16) ≡ true → header_size b ≡ 28
-    → image_size b ≡ length b → IsThinPlaced (drop 28 b) → IsThinItem (drop 44 b) → AreThinNumbers b
-numbers_by b guid head size body item = record {
+pub numbers_by : (b : List ℕ) → length b ≤ MAX_CAPSULE_BYTES
+    → is_fmp_guid (field b 0 16) ≡ true → header_size b ≡ 28 → image_size b ≡ length b
+    → IsThinPlaced (drop 28 b) → IsThinItem (drop 44 b) → AreThinNumbers b
+numbers_by b small guid head size body item = record {
+  small = small;
   guid = guid;
   header_size = head;
   size = size;

@@ -1,38 +1,14 @@
--- Thin capsules in the words of the grammar (UEFI 2.10, 8.5.3 and 23.3.2), and what the reference
--- machine sees of a capsule.
-use Rattle.std.specs.Prelude.{◌≡◌, [], ◌∷◌, length, map}
+-- What the reference machine sees of a capsule (UEFI 2.10, 8.5.3 and 23.3.2) and of the parts of an
+-- update image (UEFI 2.10, 23.1 and 23.2).
+use Rattle.std.specs.Prelude.{[], length, map, unwrap_or}
 use Rattle.cu_base.specs.declared.guid.Guid.{Guid}
 use Rattle.fmp_headers.specs.declared.image.ImageHeader.{ImageHeader}
 use Rattle.capsule_grammar.specs.declared.value.Image.{Image}
 use Rattle.capsule_grammar.specs.declared.value.Body.{Body}
 use Rattle.capsule_grammar.specs.declared.value.Body.TheVariants.{Other, Fmp}
 use Rattle.capsule_grammar.specs.declared.value.Capsule.{Capsule}
-use Rattle.capsule_grammar.specs.Values.{FmpValue}
+use Rattle.image_parts.specs.Values.{PartsValue}
 use Rattle.reference_machine.specs.Formats as machine
-
--- an image of header version 3 with support 0, without pad
-pub record IsThinImage (i : Image) : Type 0 where
-  pub version : i.header.version ≡ 3
-  pub support : i.header.support ≡ 0
-  pub pad : i.pad ≡ []
-
--- one image, which is thin, without driver and lead
-pub record IsThinFmp (b : FmpValue) : Type 0 where
-  pub lead : b.lead ≡ []
-  pub drivers : b.drivers ≡ []
-  pub image : Image
-  pub images : b.images ≡ image ∷ []
-  pub thin : IsThinImage image
-
--- one image of header version 3 with support 0, without driver, lead and pad
-abbrev pub IsThinBody : Body → Type 0
-IsThinBody (Other blob) = ⊥
-IsThinBody (Fmp b) = IsThinFmp b
-
--- a capsule of such a body, without a byte between the fields of its header and HeaderSize
-pub record IsThinCapsule (c : Capsule) : Type 0 where
-  pub ext : c.ext ≡ []
-  pub body : IsThinBody c.body
 
 -- the header of an image as the machine sees it
 abbrev pub machine_head : ImageHeader → machine.ItemHead
@@ -63,3 +39,13 @@ machine_body guid (Fmp b) = record {
 -- a capsule as the machine sees it
 abbrev pub machine_capsule : Capsule → machine.Capsule
 machine_capsule c = machine_body c.guid c.body
+
+-- the parts of an image as the machine sees them: both versions of the payload header, the
+-- dependency section, empty where there is none, and the payload
+abbrev pub machine_parts : PartsValue → machine.Parts
+machine_parts p = record {
+  version = p.head.version;
+  lowest = p.head.lowest;
+  dependency = unwrap_or p.dep [];
+  payload = p.payload;
+}

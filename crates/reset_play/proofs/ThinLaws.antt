@@ -1,6 +1,6 @@
 -- Thin deliveries are the spellings of thin capsules.
 use Rattle.std.proofs.Common.{◌≡◌, ℕ, ◌+◌, ◌-◌, ◌≤◌, true, cond, eqb, List, [], ◌∷◌, ◌++◌, length}
-use Rattle.std.proofs.Common.{get_or, drop, map, None, Some, refl, sym, ap, subst, ◌∙◌, inl, inr}
+use Rattle.std.proofs.Common.{suc, option_map, get_or, drop, map, None, Some, refl, sym, ap, subst, ◌∙◌, inl, inr}
 use Rattle.std.proofs.Common.{arith, append-nil}
 use Rattle.std.specs.List.{range_with_len}
 use Rattle.std.proofs.lemmas.Bool.{le-ltb, or_from, eq-eqb, not_from_true, cases_Bool, cond-true}
@@ -27,21 +27,23 @@ use Rattle.capsule_grammar.specs.Refusals.{bound, item}
 use Rattle.capsule_grammar.specs.Accepted.{IsImageItem, IsFmpBody}
 use Rattle.capsule_grammar.specs.Spelling.{spelling}
 use Rattle.capsule_grammar.specs.Fits.{IsCapsule}
+use Rattle.capsule_grammar.specs.CapsulesOf.{capsules_within}
 use Rattle.capsule_grammar.specs.Reading.{image_of, fmp_of, body_read, capsule_of}
 use Rattle.cu_base.proofs.Rows.{first-none, none_in}
 use Rattle.capsule_grammar.proofs.Offsets.{bound_is, bound_ends}
 use Rattle.capsule_grammar.proofs.Read.{read_is_capsule, read_is_spelled, fmp_case, front_of}
 use Rattle.capsule_grammar.proofs.Spelled.{spelled_is_read, spelled_reads_back, spelled_size}
+use Rattle.capsule_grammar.proofs.Spelled.{sized_length}
 use Rattle.reference_machine.specs.Deliveries.{fmp_guid}
 use Rattle.reference_machine.specs.Formats as machine
-use Rattle.reset_play.specs.Thin.{is_thin, thin_item, thin_capsules}
+use Rattle.reset_play.specs.Thin.{is_thin, thin, thin_item, thin_capsule}
 use Rattle.reset_play.proofs.ThinLemmas.{one_byte, item_read}
-use Rattle.capsule_tool.specs.ThinCapsules.{IsThinImage, IsThinFmp, IsThinBody, IsThinCapsule}
-use Rattle.capsule_tool.specs.ThinCapsules.{machine_item, machine_body, machine_capsule}
-use Rattle.capsule_tool.proofs.ThinPlaces.{number_behind, field_behind, field_to_end}
-use Rattle.capsule_tool.proofs.ThinPlaces.{AreThinNumbers, numbers_of, thin_by, body_behind}
-use Rattle.capsule_tool.proofs.ThinPlaces.{IsThinPlaced, IsThinItem, body_numbers, item_numbers}
-use Rattle.capsule_tool.proofs.ThinPlaces.{item_behind, numbers_by}
+use Rattle.reset_play.specs.ThinCapsules.{IsThinImage, IsThinFmp, IsThinBody, IsThinCapsule}
+use Rattle.delivery_formats.specs.Seen.{machine_item, machine_body, machine_capsule}
+use Rattle.reset_play.proofs.ThinPlaces.{number_behind, field_behind, field_to_end}
+use Rattle.reset_play.proofs.ThinPlaces.{AreThinNumbers, numbers_of, thin_by, body_behind}
+use Rattle.reset_play.proofs.ThinPlaces.{IsThinPlaced, IsThinItem, body_numbers, item_numbers}
+use Rattle.reset_play.proofs.ThinPlaces.{item_behind, numbers_by}
 
 -- ---- the item
 
@@ -235,14 +237,14 @@ module _ (b : List ℕ) (n : AreThinNumbers b) where
   fmp_read = cond-true (is_fmp_guid (field b 0 16)) (Fmp (fmp_of (body_of b))) (Other (body_of b))
       n.guid
 
-  thin_is_accepted : length b ≤ MAX_CAPSULE_BYTES → refusal b ≡ None
-  thin_is_accepted small =
+  thin_is_accepted : refusal b ≡ None
+  thin_is_accepted =
       let head : header_size b ≡ 28 = n.header_size in
       let size : image_size b ≡ length b = n.size in
       let long : 28 ≤ length b = omega (arith, n.parts) in
       let low : 28 ≤ header_size b = omega (arith, head) in
       let within : header_size b ≤ image_size b = omega (arith, head, size, long) in
-      let limit : image_size b ≤ MAX_CAPSULE_BYTES = omega (arith, size, small) in
+      let limit : image_size b ≤ MAX_CAPSULE_BYTES = omega (arith, size, n.small) in
       let there : image_size b ≤ length b = omega (arith, size) in
       let front : first_refusal (capsule_rows b) ≡ None =
       none_refused (capsule_rows b) (
@@ -264,12 +266,12 @@ module _ (b : List ℕ) (n : AreThinNumbers b) where
     body = subst IsThinBody (sym fmp_read) (thin_fmp_of (body_of b) placed in_item);
   }
 
--- thin bytes that are no longer than a capsule may be spell a thin capsule
-pub thin_is_spelled : (bytes : List ℕ) → IsBytes bytes → length bytes ≤ MAX_CAPSULE_BYTES
-    → is_thin bytes ≡ true → (c : Capsule) × IsCapsule c × IsThinCapsule c × (spelling c ≡ bytes)
-thin_is_spelled bytes is small thin =
-    let n = numbers_of bytes thin in
-    let none = thin_is_accepted bytes n small in (
+-- thin bytes spell a thin capsule
+pub thin_is_spelled : (bytes : List ℕ) → IsBytes bytes → is_thin bytes ≡ true
+    → (c : Capsule) × IsCapsule c × IsThinCapsule c × (spelling c ≡ bytes)
+thin_is_spelled bytes is on =
+    let n = numbers_of bytes on in
+    let none = thin_is_accepted bytes n in (
       capsule_of bytes,
       read_is_capsule bytes is none,
       thin_is_read bytes n,
@@ -277,9 +279,9 @@ thin_is_spelled bytes is small thin =
     )
 
 -- bytes that are not refused and hold a thin capsule alone are thin
-numbers_read : (b : List ℕ) → refusal b ≡ None → image_size b ≡ length b
-    → IsThinCapsule (capsule_of b) → AreThinNumbers b
-numbers_read b none size thin =
+numbers_read : (b : List ℕ) → length b ≤ MAX_CAPSULE_BYTES → refusal b ≡ None
+    → image_size b ≡ length b → IsThinCapsule (capsule_of b) → AreThinNumbers b
+numbers_read b small none size thin =
     let front = front_of b none in
     let more : header_size b - 28 ≡ 0 =
     sym (length-field b 28 (header_size b - 28)
@@ -292,7 +294,7 @@ numbers_read b none size thin =
           (Other (body_of b)) fmp) thin.body in
           let parts = thin_body_of (body_of b) (fmp_case b none fmp) body in
           let here = body_behind b head size in
-          numbers_by b fmp head size (subst IsThinPlaced here parts.0)
+          numbers_by b small fmp head size (subst IsThinPlaced here parts.0)
           (subst IsThinItem (item_behind b)
           (subst (λ (l : List ℕ). IsThinItem (drop 16 l)) here parts.1))
       | inr other ↦ absurd
@@ -310,7 +312,7 @@ numbers_spelled c is thin =
     let none : refusal (spelling c) ≡ None = ap refusal (sym whole) ∙ spelled_is_read c [] is in
     let size : image_size (spelling c) ≡ length (spelling c) = ap image_size (sym whole)
     ∙ spelled_size c [] is in
-    numbers_read (spelling c) none size (subst IsThinCapsule (sym (capsule_again c is)) thin)
+    numbers_read (spelling c) (sized_length c is) none size (subst IsThinCapsule (sym (capsule_again c is)) thin)
 
 pub spelled_is_thin : (c : Capsule) → IsCapsule c → IsThinCapsule c → is_thin (spelling c) ≡ true
 spelled_is_thin c is thin = thin_by (spelling c) (numbers_spelled c is thin)
@@ -377,14 +379,16 @@ seen_of b n =
     (map machine_item (fmp_of body).images) (thin_item b ∷ []) guid
     (ap length (drivers_are body (placed b n))) items
 
-pub spelled_is_seen : (c : Capsule) → IsCapsule c → IsThinCapsule c
-    → thin_capsules (spelling c) ≡ Some (machine_capsule c ∷ [])
-spelled_is_seen c is thin =
-    let n = numbers_spelled c is thin in
-    let again : capsule_of (spelling c) ≡ c = capsule_again c is in
-    let all : machine_capsule c ≡ capsule_seen fmp_guid.bytes 0 (thin_item (spelling c) ∷ []) =
-    ap machine_capsule (sym again) ∙ seen_of (spelling c) n in
-    cond-true (is_thin (spelling c))
-    (Some (capsule_seen fmp_guid.bytes 0 (thin_item (spelling c) ∷ []) ∷ [])) None
-    (thin_by (spelling c) n)
-    ∙ ap (λ (m : machine.Capsule). Some (m ∷ [])) (sym all)
+one_capsule : (n : ℕ) (b : List ℕ) → refusal b ≡ None → image_size b ≡ length b
+    → capsules_within (suc n) b ≡ Some (capsule_of b ∷ [])
+unfolding capsules_within
+one_capsule n b none size = rw (none, eq-eqb (image_size b) (length b) size) refl
+
+-- what a boot reads of a thin delivery is the one thin capsule
+pub thin_is_seen : (bytes : List ℕ) → is_thin bytes ≡ true
+    → thin.capsules bytes ≡ Some (thin_capsule bytes ∷ [])
+thin_is_seen bytes on =
+    let n = numbers_of bytes on in
+    ap (option_map (map machine_capsule))
+    (one_capsule 7 bytes (thin_is_accepted bytes n) n.size)
+    ∙ ap (λ (m : machine.Capsule). Some (m ∷ [])) (seen_of bytes n)
