@@ -1,10 +1,16 @@
 pub mod CloseEdits
 pub mod CloseLaws
+pub mod Committed
 pub mod DropLaws
+pub mod Due
 pub mod Entered
 pub mod Found
 pub mod Fresh
 pub mod OneMore
-pub mod Pruned
+pub mod Places
+pub mod Pushed
+pub mod Serials
+pub mod Sized
+pub mod Told
 pub mod UnitLaws
 pub mod Unstaged

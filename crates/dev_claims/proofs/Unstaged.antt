@@ -11,6 +11,7 @@ use Rattle.bench_model.specs.Boards.{IsBoard}
 use Rattle.reference_machine.specs.Machine.{Machine}
 use Rattle.reference_machine.specs.Order.{in_order}
 use Rattle.reference_machine.specs.declared.snapshot.StagedPair.{StagedPair}
+use Rattle.reference_machine.proofs.Apart.{all_imply}
 use Rattle.dev_claims.specs.Batches.{keeps_serial, unstage_changes}
 use Rattle.dev_claims.specs.Steps.{unstaged}
 use Rattle.stored_vars.specs.Edits.{delete_of}
@@ -28,7 +29,7 @@ use Rattle.stored_vars.proofs.Frames.{AreVariables, Edit, change_of, edited, pla
 use Rattle.stored_vars.proofs.Frames.{read_after, told, told_beside}
 use Rattle.stored_vars.proofs.Frames.Edit.{Deletes}
 use Rattle.stored_vars.proofs.Kept.{stage_within, tells_units, units_stay}
-use Rattle.stored_vars.proofs.Sorting.{all_filtered, all_imply, filter_ordered}
+use Rattle.stored_vars.proofs.Sorting.{all_filtered, filter_ordered}
 use Rattle.var_log.specs.Changes.{Variables, after}
 
 -- ---- the deletes of staging variables

@@ -1,5 +1,7 @@
 pub mod Batches
+pub mod ClosedBy
 pub mod Units
 pub mod Next
 pub mod Steps
-pub mod Prunes
+pub mod Places
+pub mod Committing

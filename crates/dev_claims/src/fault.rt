@@ -1,5 +1,5 @@
 ghost use Rattle.std.specs.Prelude.{◌≡◌};
-ghost use Rattle.dev_claims.specs.Prunes.{claim_fault_of};
+ghost use Rattle.dev_claims.specs.Committing.{claim_fault_of};
 ghost use Rattle.dev_claims.specs.declared.fault.ClaimFault.TheVariants as claims;
 
 use cu_base::NoMemory;

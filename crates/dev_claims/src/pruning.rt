@@ -58,7 +58,7 @@ fn progress_change(alloc: Global, kept: &[ProgressEntry]) -> Result<Change, NoMe
 }
 
 /// The change that sets a variable to these bytes.
-fn set_of(alloc: Global, variable: StoredVar, value: Blob) -> Result<Change, NoMemory>
+pub(crate) fn set_of(alloc: Global, variable: StoredVar, value: Blob) -> Result<Change, NoMemory>
     requires { IsTrue (is_variable variable) }
     ensures { IfOk result (λ change. change ≡ set_of variable value) }
 {
@@ -82,7 +82,7 @@ fn delete_of(alloc: Global, variable: StoredVar) -> Result<Change, NoMemory>
 }
 
 /// The progress that is kept.
-fn progress_kept(alloc: Global, store: &VarStore) -> Result<ProgressEntries, NoMemory>
+pub(crate) fn progress_kept(alloc: Global, store: &VarStore) -> Result<ProgressEntries, NoMemory>
     ensures { IfOk result (λ entries. entries.items ≡ progress_of (variables_of store.now)) }
 {
     match bytes_of(store, StoredVar::Progress) {

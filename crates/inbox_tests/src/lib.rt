@@ -5,6 +5,8 @@
 #[cfg(test)]
 mod bench;
 #[cfg(test)]
+mod orders;
+#[cfg(test)]
 mod signals;
 #[cfg(test)]
 mod stagings;

@@ -80,7 +80,7 @@ runs_same m n left ek es el r =
     (subst (λ ss. AreRunning (keys_of n.list) ss m.last_staged left) (sym es)
     (subst (λ ks. AreRunning ks m.staged m.last_staged left) (sym ek) r))
 
-settled_keys : (m : Machine) (end : End) (o : Option Element)
+pub settled_keys : (m : Machine) (end : End) (o : Option Element)
     → keys_of (settled_with m end o).list ≡ keys_of m.list
 settled_keys m end None = refl
 settled_keys m end (Some e) = keys_closed end m.now m.list

@@ -90,7 +90,7 @@ gapless_at seen (x ∷ xs) rest e g =
     (gapless_at (seen ++ x.key ∷ []) xs rest e g.1)
 
 -- keys and elements are counted alike
-counted_alike : (p : UnitKey → Bool) (list : List Element)
+pub counted_alike : (p : UnitKey → Bool) (list : List Element)
     → length (filter p (keys_of list)) ≡ length (filter (λ e. p e.key) list)
 counted_alike p [] = refl
 counted_alike p (x ∷ xs) =

@@ -1,6 +1,8 @@
 pub mod Apart
 pub mod Bounds
+pub mod Coming
 pub mod Ending
+pub mod Few
 pub mod Filing
 pub mod FilingWork
 pub mod Floors
@@ -17,5 +19,6 @@ pub mod Ordered
 pub mod Reached
 pub mod Reading
 pub mod Short
+pub mod Sorted
 pub mod SpentFiles
 pub mod Tests

@@ -21,7 +21,7 @@ use Rattle.reference_machine.proofs.Keys.{count, Ahead, Numbered, unit_keys, uni
 use Rattle.reference_machine.proofs.Keys.{rest_numbered, do_ahead, count_apart}
 
 -- an order keeps what holds of each item, and that items are distinct
-all_inserted : {X : Type 0} (P : X → Type 0) (before : X → X → Bool) (x : X) (ys : List X) → P x
+pub all_inserted : {X : Type 0} (P : X → Type 0) (before : X → X → Bool) (x : X) (ys : List X) → P x
     → AllByRecursion P ys → AllByRecursion P (inserted before x ys)
 all_inserted P before x [] h all = (h, tt)
 all_inserted P before x (y ∷ ys) h all =

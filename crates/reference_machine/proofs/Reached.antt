@@ -129,7 +129,7 @@ pub given : (f : Formats) (board : BoardValue) (m : Machine) → IsReached f boa
 given f board m r = serials_given m (limited f board m r) (orderly f board m r).keyed
 
 -- a boot of a reached machine is short
-same_board : (f : Formats) (board : BoardValue) (m : Machine) → IsReached f board m
+pub same_board : (f : Formats) (board : BoardValue) (m : Machine) → IsReached f board m
     → m.board ≡ board
 same_board f board m r =
     reached_keeps f (λ (x : Machine). x.board ≡ board) (board_keeps f board) board m refl r

@@ -40,7 +40,7 @@ use Rattle.reference_machine.proofs.SpentFiles.{settled_files}
 use Rattle.reference_machine.proofs.Keyed.{settled_staged}
 
 -- the board stays
-settled_board : (m : Machine) (end : End) (o : Option Element)
+pub settled_board : (m : Machine) (end : End) (o : Option Element)
     → (settled_with m end o).board ≡ m.board
 settled_board m end None = refl
 settled_board m end (Some e) = refl
@@ -195,7 +195,7 @@ module _ (f : Formats) (limits : KeepsLimits f) where
           (enumerate_from 0 found) in
           omega arith
 
-  units_few : (d : Delivery) (board : BoardValue) → length board.devices ≤ 16
+  pub units_few : (d : Delivery) (board : BoardValue) → length board.devices ≤ 16
       → length (units f d board) ≤ 2048
   units_few d board few =
       let us : List BootUnit = decoded_units board d (option_and_then f.capsules d.bytes) in

@@ -15,7 +15,7 @@ use Rattle.reference_machine.specs.declared.unit.UnitKey.{UnitKey}
 use Rattle.reference_machine.specs.declared.unit.UnitLine.{UnitLine}
 use Rattle.reference_machine.specs.Formats.{Parts, Formats}
 use Rattle.reference_machine.specs.Deliveries.{Delivery, BootUnit, units}
-use Rattle.bench_model.specs.Files.{File}
+use Rattle.bench_model.specs.Files.{File, has_serial}
 use Rattle.reference_machine.specs.Machine.{Machine}
 use Rattle.reference_machine.specs.Names.{is_taken_before}
 use Rattle.reference_machine.specs.Order.{in_order}
@@ -156,7 +156,7 @@ after_unit f b u rest (Close end) = record {
 
 -- whether a file of the folder has the serial
 abbrev pub is_file : List File → ℕ → Bool
-is_file files serial = list_any (λ x. x.serial == serial) files
+is_file files serial = has_serial serial files
 
 -- the boot after a batch, with the rest of its work
 abbrev pub after_batch : Formats → BootState → BootBatch → List BootTask → BootState

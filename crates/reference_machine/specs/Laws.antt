@@ -8,6 +8,7 @@ use Rattle.reference_machine.specs.declared.limits.TheConstants.{MAX_STAGED}
 use Rattle.bench_model.specs.declared.outside_limits.TheConstants.{MAX_FILES}
 use Rattle.bench_model.specs.declared.outside_limits.TheConstants.{MAX_SEGMENTS, MAX_MEMORY_BYTES}
 use Rattle.reference_machine.specs.declared.limits.TheConstants.{MAX_DELIVERY_CAPSULES}
+use Rattle.reference_machine.specs.declared.limits.TheConstants.{MAX_DELIVERY_UNITS}
 use Rattle.reference_machine.specs.declared.event.Event.{Event}
 use Rattle.reference_machine.specs.declared.trace.BootEnd.{BootEnd}
 use Rattle.reference_machine.specs.declared.trace.BootEnd.TheVariants as ends
@@ -138,6 +139,13 @@ pub record SerialsAreGiven (m : Machine) : Type 0 where
   pub elements : AllByRecursion (λ e. IsGiven m e.key) m.list
   pub in_progress : AllByRecursion (λ s. s ≤ m.last_file) m.in_progress
   pub staged : AllByRecursion (λ p. list_any (λ e. is_of 0 p.serial e.key) m.list ≡ false) m.staged
+
+-- a unit is the next of its file: as many units of the file are spent as its number says. There are
+-- few units of a delivery, and its serial was given.
+pub record IsDue (m : Machine) (key : UnitKey) : Type 0 where
+  pub unit : key.ticket.route ≡ 1 → key.unit ≡ spent m.list key.ticket.serial
+  pub few : key.unit < MAX_DELIVERY_UNITS
+  pub given : IsGiven m key
 
 -- a delivery holds few capsules. Of items and devices nothing needs to be said: a capsule of too
 -- many items is passed over, and a board has few devices.

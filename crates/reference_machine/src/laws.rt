@@ -1,10 +1,13 @@
 //! What holds of the reference machine, whatever is delivered, whatever fails, and whatever the
 //! formats say. Each law is the contract of a function that does nothing.
 
-ghost use Rattle.std.specs.Prelude.{◌≡◌, ◌<◌, ◌≤◌, ◌+◌, ◌^◌, ◌↔◌, ℕ, List, [], ◌++◌, find, length};
+ghost use Rattle.std.specs.Prelude.{◌≡◌, ◌<◌, ◌≤◌, ◌+◌, ◌^◌, ◌↔◌, ℕ, List, [], ◌∷◌, ◌++◌, find};
+ghost use Rattle.std.specs.Prelude.{length};
 ghost use Rattle.std.specs.Prelude.{map, None, Some, true, false, if◌then◌else◌};
 ghost use Rattle.bench_model.specs.Boards.{BoardValue, IsBoard};
-ghost use Rattle.reference_machine.specs.Boots.{boot_at, boot_of};
+ghost use Rattle.reference_machine.specs.Boots.{BootTask, boot_at, boot_of};
+ghost use Rattle.reference_machine.specs.Boots.BootBatch.{Does, Settles};
+ghost use Rattle.reference_machine.specs.Boots.BootTask.{Commits};
 ghost use Rattle.reference_machine.specs.Deliveries.{BootUnit};
 ghost use Rattle.reference_machine.specs.Events.{InputBytes, IsIn, Run, Step, cut_machines};
 ghost use Rattle.reference_machine.specs.Events.{is_memory_full, trace_of, machine_after};
@@ -13,11 +16,11 @@ ghost use Rattle.reference_machine.specs.Laws.{IsReached, IsPastMemory, Grows, O
 ghost use Rattle.reference_machine.specs.Laws.{AttemptsReachFloor, AreApart, StandInOrder};
 ghost use Rattle.reference_machine.specs.Laws.{HaveDistinctKeys, SpentFilesHaveProgress};
 ghost use Rattle.reference_machine.specs.Laws.{IsWithinLimits, SerialsAreGiven, KeepsLimits};
-ghost use Rattle.reference_machine.specs.Laws.{TellNoFault};
+ghost use Rattle.reference_machine.specs.Laws.{IsDue, TellNoFault};
 ghost use Rattle.reference_machine.specs.Machine.{Machine, fresh};
 ghost use Rattle.reference_machine.specs.Moves.{closed_since, move_bound};
 ghost use Rattle.reference_machine.specs.Report.{ReportValue};
-ghost use Rattle.reference_machine.specs.Spent.{Element, is_open, floor_of};
+ghost use Rattle.reference_machine.specs.Spent.{Element, is_open, floor_of, spent};
 ghost use Rattle.reference_machine.specs.Stops.{Agrees, IsHeldEnd};
 ghost use Rattle.reference_machine.specs.Stops.StopCause.{Volume};
 ghost use Rattle.reference_machine.specs.TraceValues.{EntryValue};
@@ -25,10 +28,11 @@ ghost use Rattle.image_parts.specs.Admission.{is_admitted};
 ghost use Rattle.reference_machine.specs.Verdicts.{refusal_with, capacity_of, keeps_dependencies};
 ghost use Rattle.reference_machine.specs.declared.event.Event.{Event};
 ghost use Rattle.reference_machine.specs.declared.unit.End.{End};
+ghost use Rattle.reference_machine.specs.declared.unit.Kind.{Kind};
 
 use crate::{
-    MAX_CAPSULE_ITEMS, MAX_DELIVERY_CAPSULES, MAX_FILES, MAX_FOLDER_BYTES, MAX_MEMORY_BYTES,
-    MAX_SEGMENTS, MAX_STAGED,
+    MAX_CAPSULE_ITEMS, MAX_DELIVERY_CAPSULES, MAX_DELIVERY_UNITS, MAX_FILES, MAX_FOLDER_BYTES,
+    MAX_MEMORY_BYTES, MAX_SEGMENTS, MAX_STAGED,
 };
 
 /// The floor in force of a device never falls along the list of spent units.
@@ -78,6 +82,29 @@ pub fn limits_are_kept()
         → IsWithinLimits m }
     ensures serials { (f : Formats) (board : BoardValue) (m : Machine) → IsReached f board m
         → SerialsAreGiven m }
+{}
+
+/// A file has few spent units, where a delivery holds at most 8 capsules.
+#[tactic(auto, using(crate::proofs::Few::spent_few))]
+pub fn units_of_a_file_are_few()
+    ensures { (f : Formats) (board : BoardValue) (m : Machine) → KeepsLimits f → IsBoard board
+        → IsReached f board m → (serial : ℕ) → spent m.list serial ≤ MAX_DELIVERY_UNITS }
+{}
+
+/// A boot comes to the units of a file in their order, and to each of them with nothing open. What
+/// it settles is the open element, of which the same holds.
+pub fn a_boot_comes_to_units_in_order()
+    ensures unit { (f : Formats) (board : BoardValue) (m : Machine) → KeepsLimits f → IsBoard board
+        → IsReached f board m → (h : End) (j : ℕ) (u : BootUnit) (rest : List BootTask) →
+        IsHeldEnd h → (boot_at f m h j).left ≡ Commits (Does u) ∷ rest →
+        (find is_open (boot_at f m h j).machine.list ≡ None)
+        × IsDue (boot_at f m h j).machine u.key }
+    ensures settlement { (f : Formats) (board : BoardValue) (m : Machine) → KeepsLimits f →
+        IsBoard board → IsReached f board m → (h : End) (j : ℕ) (kind : Kind) (end : End)
+        (rest : List BootTask) → IsHeldEnd h →
+        (boot_at f m h j).left ≡ Commits (Settles kind end) ∷ rest →
+        (e : Element) × (find is_open (boot_at f m h j).machine.list ≡ Some e)
+        × IsDue (boot_at f m h j).machine e.key }
 {}
 
 /// A boot has fewer than 2^20 steps, finished or stopped, where a delivery holds at most 8
@@ -158,6 +185,7 @@ pub fn the_limits_are_these()
     ensures memory { MAX_MEMORY_BYTES ≡ 134217728 }
     ensures capsules { MAX_DELIVERY_CAPSULES ≡ 8 }
     ensures items { MAX_CAPSULE_ITEMS ≡ 16 }
+    ensures units { MAX_DELIVERY_UNITS ≡ 2048 }
 {}
 
 /// Memory is full exactly where no more segments may be laid, or not so many bytes.

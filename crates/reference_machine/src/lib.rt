@@ -10,6 +10,7 @@ mod attempt_status;
 mod event;
 mod laws;
 mod limits;
+mod names;
 mod report;
 mod samples;
 mod snapshot;
@@ -26,14 +27,16 @@ pub use bench_model::{MAX_FILES, MAX_FOLDER_BYTES, MAX_MEMORY_BYTES, MAX_SEGMENT
 use cu_base::Items;
 pub use event::Event;
 pub use laws::{
-    a_boot_is_short, a_whole_boot_is_done, attempts_reach_the_floor,
-    cut_events_leave_reached_machines, deliveries_are_apart, floor_never_falls, limits_are_kept,
-    lines_tell_of_closed_units, memory_is_full_past_its_limits, spent_files_have_progress,
-    the_bound_on_moves_grows, the_checks_stand_in_order, the_heal_stands_before_the_volume,
-    the_last_alone_is_open, the_limits_are_these, the_list_only_grows, units_stand_in_order,
+    a_boot_comes_to_units_in_order, a_boot_is_short, a_whole_boot_is_done,
+    attempts_reach_the_floor, cut_events_leave_reached_machines, deliveries_are_apart,
+    floor_never_falls, limits_are_kept, lines_tell_of_closed_units, memory_is_full_past_its_limits,
+    spent_files_have_progress, the_bound_on_moves_grows, the_checks_stand_in_order,
+    the_heal_stands_before_the_volume, the_last_alone_is_open, the_limits_are_these,
+    the_list_only_grows, units_of_a_file_are_few, units_stand_in_order,
     without_faults_there_is_one_machine,
 };
-pub use limits::{MAX_CAPSULE_ITEMS, MAX_DELIVERY_CAPSULES, MAX_STAGED};
+pub use limits::{MAX_CAPSULE_ITEMS, MAX_DELIVERY_CAPSULES, MAX_DELIVERY_UNITS, MAX_STAGED};
+pub use names::compare_names;
 pub use report::Report;
 pub use report_tables::{EsrtEntry, FmpResult, ResultVar};
 pub use samples::{
@@ -48,3 +51,6 @@ pub type UnitLines = Items<UnitLine>;
 
 /// Serials of deliveries.
 pub type Serials = Items<u64>;
+
+/// The deliveries that wait in memory.
+pub type Staged = Items<StagedPair>;

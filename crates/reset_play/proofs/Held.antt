@@ -18,7 +18,7 @@ use Rattle.reference_machine.specs.Boots.BootBatch.{Settles}
 use Rattle.reference_machine.specs.Boots.BootTask.{Commits}
 use Rattle.reference_machine.specs.Report.{ReportValue}
 use Rattle.reference_machine.specs.Results.{line_of}
-use Rattle.reset_play.specs.Thin.{thin}
+use Rattle.delivery_formats.specs.TrueFormats.{true_formats}
 use Rattle.reference_machine.specs.Spent.{Element, is_open, is_closed}
 use Rattle.reset_play.specs.Whole.{open_rest, is_claim_open, task_done}
 use Rattle.reference_machine.proofs.Lists.{NoneOpen, find_none, find_last, closed_more, closed}
@@ -183,7 +183,7 @@ pub settled_whole : (board : BoardValue) (files : List File) (last : ℕ) (asked
     (progress_with in_progress e.key) (batches + 1) opened (steps + 1)
     (lines ++ line_of board kind (length done) (closed e Sealed first_moment)
     ∷ []) unstaged removed pending
-    ≡ task_done thin
+    ≡ task_done true_formats
     (built board files last asked
     (done ++ e ∷ []) in_progress batches opened steps lines unstaged removed pending)
     (Commits (Settles kind Sealed))

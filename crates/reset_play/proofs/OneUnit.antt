@@ -18,7 +18,8 @@ use Rattle.reference_machine.specs.Machine.{Machine}
 use Rattle.reference_machine.specs.Order.{in_order, inserted}
 use Rattle.reset_play.specs.Plays.{has_one_device, is_thin_on}
 use Rattle.reference_machine.specs.Spent.{spent}
-use Rattle.reset_play.specs.Thin.{thin, thin_item, is_thin}
+use Rattle.delivery_formats.specs.TrueFormats.{true_formats}
+use Rattle.reset_play.specs.Thin.{thin_item, is_thin}
 use Rattle.reset_play.specs.Whole.{file_unit, marked_tasks, all_marked_tasks, marks_of}
 use Rattle.reference_machine.proofs.Tests.{both_left, both_right}
 use Rattle.reset_play.proofs.ThinLaws.{thin_is_seen}
@@ -45,7 +46,8 @@ targets_one h (d ∷ e ∷ rest) one any = absurd (two_not_one (length rest) one
 
 -- its units are this one
 pub units_one : (board : BoardValue) (x : File) → IsTrue (has_one_device board)
-    → IsTrue (is_thin_on board x.bytes) → units thin (file_delivery x) board ≡ file_unit x ∷ []
+    → IsTrue (is_thin_on board x.bytes) → units true_formats (file_delivery x) board
+    ≡ file_unit x ∷ []
 units_one board x one on =
     let t : is_thin x.bytes ≡ true = both_left _ _ on in
     let ts : targets (thin_item x.bytes).head board ≡ 0 ∷ [] =
@@ -68,7 +70,7 @@ drop_one (suc n) u =
 -- the work on it, by whether the unit is spent
 pub work_one : (m : Machine) (x : File) → IsTrue (has_one_device m.board)
     → IsTrue (is_thin_on m.board x.bytes)
-    → file_tasks thin m x ≡ marked_tasks x (not (spent m.list x.serial == 0))
+    → file_tasks true_formats m x ≡ marked_tasks x (not (spent m.list x.serial == 0))
 work_one m x one on =
     ap (λ us. unit_tasks (drop (spent m.list x.serial) us) ++ Removes x.serial ∷ [])
     (units_one m.board x one on)
@@ -77,14 +79,14 @@ work_one m x one on =
 -- the work on such files
 pub works_marked : (m : Machine) (xs : List File) → IsTrue (has_one_device m.board)
     → IsTrue (list_all (λ (x : File). is_thin_on m.board x.bytes) xs)
-    → flat_map (file_tasks thin m) xs ≡ all_marked_tasks xs (marks_of m.list xs)
+    → flat_map (file_tasks true_formats m) xs ≡ all_marked_tasks xs (marks_of m.list xs)
 works_marked m [] one all = refl
 works_marked m (x ∷ xs) one all =
-    let head : file_tasks thin m x ≡ marked_tasks x (not (spent m.list x.serial == 0)) =
+    let head : file_tasks true_formats m x ≡ marked_tasks x (not (spent m.list x.serial == 0)) =
     work_one m x one (both_left _ _ all) in
-    let tail : flat_map (file_tasks thin m) xs ≡ all_marked_tasks xs (marks_of m.list xs) =
+    let tail : flat_map (file_tasks true_formats m) xs ≡ all_marked_tasks xs (marks_of m.list xs) =
     works_marked m xs one (both_right (is_thin_on m.board x.bytes) _ all) in
-    ap (λ w. w ++ flat_map (file_tasks thin m) xs) head
+    ap (λ w. w ++ flat_map (file_tasks true_formats m) xs) head
     ∙ ap (λ w. marked_tasks x (not (spent m.list x.serial == 0)) ++ w) tail
 
 both : (a b : Bool) → a ≡ true → b ≡ true → IsTrue (a && b)

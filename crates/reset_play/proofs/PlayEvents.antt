@@ -6,7 +6,7 @@ use Rattle.cu_io.specs.Named.{Named}
 use Rattle.reference_machine.specs.Events.{outcome, trace_of, machine_after}
 use Rattle.reference_machine.specs.Machine.{Machine}
 use Rattle.reset_play.specs.Plays.{loaded_bytes}
-use Rattle.reset_play.specs.Thin.{thin}
+use Rattle.delivery_formats.specs.TrueFormats.{true_formats}
 use Rattle.reference_machine.specs.TraceValues.{EntryValue}
 
 taken_suc : {X : Type 0} (all : List X) (k : ℕ) (x : X) (rest : List X) → x ∷ rest ≡ drop k all
@@ -55,22 +55,23 @@ next_events events k e h = rw (drop-cons events k e h, add-one k) refl
 
 pub told_next : (named : Named) (events : List Event) (k : ℕ) (e : Event) (m new : Machine)
     (said : EntryValue) → e ≡ get_or events k e → k < length events
-    → (said, new) ≡ outcome thin (loaded_bytes named) m e
-    → said ∷ trace_of thin (loaded_bytes named) new (drop (k + 1) events)
-    ≡ trace_of thin (loaded_bytes named) m (drop k events)
+    → (said, new) ≡ outcome true_formats (loaded_bytes named) m e
+    → said ∷ trace_of true_formats (loaded_bytes named) new (drop (k + 1) events)
+    ≡ trace_of true_formats (loaded_bytes named) m (drop k events)
 told_next named events k e m new said is h told =
     ap (λ (o : EntryValue × Machine). o.0
-    ∷ trace_of thin (loaded_bytes named) o.1 (drop (k + 1) events)) told
-    ∙ ap (λ (x : Event). trace_of thin (loaded_bytes named) m (x ∷ drop (k + 1) events)) is
-    ∙ sym (ap (trace_of thin (loaded_bytes named) m) (next_events events k e h))
+    ∷ trace_of true_formats (loaded_bytes named) o.1 (drop (k + 1) events)) told
+    ∙ ap (λ (x : Event). trace_of true_formats (loaded_bytes named) m (x ∷ drop (k + 1) events)) is
+    ∙ sym (ap (trace_of true_formats (loaded_bytes named) m) (next_events events k e h))
 
 pub machine_next : (named : Named) (events : List Event) (k : ℕ) (e : Event) (m new : Machine)
     (said : EntryValue) → e ≡ get_or events k e → k < length events
-    → (said, new) ≡ outcome thin (loaded_bytes named) m e
-    → machine_after thin (loaded_bytes named) new (drop (k + 1) events)
-    ≡ machine_after thin (loaded_bytes named) m (drop k events)
+    → (said, new) ≡ outcome true_formats (loaded_bytes named) m e
+    → machine_after true_formats (loaded_bytes named) new (drop (k + 1) events)
+    ≡ machine_after true_formats (loaded_bytes named) m (drop k events)
 machine_next named events k e m new said is h told =
-    ap (λ (o : EntryValue × Machine). machine_after thin (loaded_bytes named) o.1
+    ap (λ (o : EntryValue × Machine). machine_after true_formats (loaded_bytes named) o.1
     (drop (k + 1) events)) told
-    ∙ ap (λ (x : Event). machine_after thin (loaded_bytes named) m (x ∷ drop (k + 1) events)) is
-    ∙ sym (ap (machine_after thin (loaded_bytes named) m) (next_events events k e h))
+    ∙ ap (λ (x : Event). machine_after true_formats (loaded_bytes named) m (x ∷ drop
+    (k + 1) events)) is
+    ∙ sym (ap (machine_after true_formats (loaded_bytes named) m) (next_events events k e h))

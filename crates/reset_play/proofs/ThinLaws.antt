@@ -36,7 +36,8 @@ use Rattle.capsule_grammar.proofs.Spelled.{spelled_is_read, spelled_reads_back, 
 use Rattle.capsule_grammar.proofs.Spelled.{sized_length}
 use Rattle.reference_machine.specs.Deliveries.{fmp_guid}
 use Rattle.reference_machine.specs.Formats as machine
-use Rattle.reset_play.specs.Thin.{is_thin, thin, thin_item, thin_capsule}
+use Rattle.delivery_formats.specs.TrueFormats.{true_formats}
+use Rattle.reset_play.specs.Thin.{is_thin, thin_item, thin_capsule}
 use Rattle.reset_play.proofs.ThinLemmas.{one_byte, item_read}
 use Rattle.reset_play.specs.ThinCapsules.{IsThinImage, IsThinFmp, IsThinBody, IsThinCapsule}
 use Rattle.delivery_formats.specs.Seen.{machine_item, machine_body, machine_capsule}
@@ -386,7 +387,7 @@ one_capsule n b none size = rw (none, eq-eqb (image_size b) (length b) size) ref
 
 -- what a boot reads of a thin delivery is the one thin capsule
 pub thin_is_seen : (bytes : List ℕ) → is_thin bytes ≡ true
-    → thin.capsules bytes ≡ Some (thin_capsule bytes ∷ [])
+    → true_formats.capsules bytes ≡ Some (thin_capsule bytes ∷ [])
 thin_is_seen bytes on =
     let n = numbers_of bytes on in
     ap (option_map (map machine_capsule))

@@ -11,7 +11,8 @@ use Rattle.reference_machine.specs.declared.event.Event.TheVariants.{Show}
 use Rattle.reference_machine.specs.Deliveries.{is_target}
 use Rattle.reference_machine.specs.Events.{trace_of}
 use Rattle.reference_machine.specs.Machine.{fresh}
-use Rattle.reset_play.specs.Thin.{thin, thin_item, is_thin}
+use Rattle.delivery_formats.specs.TrueFormats.{true_formats}
+use Rattle.reset_play.specs.Thin.{thin_item, is_thin}
 use Rattle.reference_machine.specs.TraceValues.{EntryValue}
 
 -- the board has one device
@@ -56,4 +57,4 @@ can_play board named Show = false
 
 -- what the reference machine tells of the events, from a fresh board
 abbrev pub thin_trace : BoardValue → Named → List Event → List EntryValue
-thin_trace board named events = trace_of thin (loaded_bytes named) (fresh board) events
+thin_trace board named events = trace_of true_formats (loaded_bytes named) (fresh board) events

@@ -10,7 +10,7 @@ use Rattle.bench_model.specs.Devices.{DeviceValue}
 use Rattle.reference_machine.specs.Events.{trace_of}
 use Rattle.reference_machine.specs.Machine.{fresh}
 use Rattle.reset_play.specs.Texts.{trace_text}
-use Rattle.reset_play.specs.Thin.{thin}
+use Rattle.delivery_formats.specs.TrueFormats.{true_formats}
 
 -- a number below 256 in four bytes
 abbrev pub small : ℕ → List ℕ
@@ -94,7 +94,7 @@ abbrev pub sample_text : ℕ → List Event → List ℕ
 sample_text result_max script =
     trace_text (sample_board result_max) script
     (map (λ said. said.answer)
-    (trace_of thin bytes_of (fresh (sample_board result_max)) script))
+    (trace_of true_formats bytes_of (fresh (sample_board result_max)) script))
 
 -- a file of an equal upper-cased name is replaced; the same bytes delivered again are another
 -- delivery

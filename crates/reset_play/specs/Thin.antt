@@ -5,8 +5,7 @@ use Rattle.std.specs.Prelude.{ℕ, Bool, ◌+◌, ◌==◌, ◌&&◌, nat_le, Li
 use Rattle.cu_base.specs.Fields.{field, number_at}
 use Rattle.cu_base.specs.declared.limits.TheConstants.{MAX_CAPSULE_BYTES}
 use Rattle.reference_machine.specs.Deliveries.{fmp_guid}
-use Rattle.reference_machine.specs.Formats.{Item, Capsule, Formats}
-use Rattle.delivery_formats.specs.TrueFormats.{true_formats}
+use Rattle.reference_machine.specs.Formats.{Item, Capsule}
 
 -- the capsule header: the GUID at 0, HeaderSize at 16, CapsuleImageSize at 24
 abbrev pub has_thin_header : List ℕ → Bool
@@ -47,7 +46,3 @@ thin_item b = record {
 -- the one capsule of a thin delivery
 abbrev pub thin_capsule : List ℕ → Capsule
 thin_capsule b = record { guid = fmp_guid; drivers = 0; items = thin_item b ∷ [] }
-
--- what a boot reads of thin deliveries is what it reads of all
-abbrev pub thin : Formats
-thin = true_formats

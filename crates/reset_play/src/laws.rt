@@ -9,7 +9,8 @@ ghost use Rattle.capsule_grammar.specs.Spelling.{spelling};
 ghost use Rattle.reset_play.specs.Samples.{sample_text, text_of, redelivery, lower_version};
 ghost use Rattle.reset_play.specs.Samples.{refusals, wrapping, redelivery_lines};
 ghost use Rattle.reset_play.specs.Samples.{lower_version_lines, refusals_lines, wrapping_lines};
-ghost use Rattle.reset_play.specs.Thin.{is_thin, thin, thin_capsule};
+ghost use Rattle.delivery_formats.specs.TrueFormats.{true_formats};
+ghost use Rattle.reset_play.specs.Thin.{is_thin, thin_capsule};
 ghost use Rattle.reset_play.specs.ThinCapsules.{IsThinCapsule};
 
 /// The thin deliveries are the spellings of the thin capsules, and what a boot reads of one is the
@@ -19,7 +20,7 @@ pub fn thin_deliveries_are_capsules()
         → (c : Capsule) × IsCapsule c × IsThinCapsule c × (spelling c ≡ bytes) }
     ensures spelled { (c : Capsule) → IsCapsule c → IsThinCapsule c → is_thin (spelling c) ≡ true }
     ensures seen { (bytes : List ℕ) → is_thin bytes ≡ true
-        → thin.capsules bytes ≡ Some (thin_capsule bytes ∷ []) }
+        → true_formats.capsules bytes ≡ Some (thin_capsule bytes ∷ []) }
 {}
 
 /// What the definitions say of four scripts on a board of one device is what these scripts are to

@@ -17,7 +17,8 @@ use Rattle.stored_vars.specs.Stands.{ProgressFits, units_kept, units_on}
 use Rattle.stored_vars.specs.declared.progress.ProgressEntry.{ProgressEntry}
 use Rattle.stored_vars.specs.declared.variable.StoredVar.TheVariants.{Progress}
 use Rattle.stored_vars.proofs.ProgressLaws.{progress_again}
-use Rattle.stored_vars.proofs.Sorting.{all_filtered, all_imply}
+use Rattle.reference_machine.proofs.Apart.{all_imply}
+use Rattle.stored_vars.proofs.Sorting.{all_filtered}
 use Rattle.var_log.specs.Changes.{Variables}
 
 -- ---- rising serials, each below all later ones

@@ -5,13 +5,10 @@ use Rattle.std.proofs.Common.{filter, nat_lt, refl, sym, ap, ◌∙◌, arith}
 use Rattle.std.specs.List.{AllByRecursion}
 use Rattle.std.proofs.lemmas.Bool.{ltb-true, ltb-false, le-ltb, lt-ltb}
 use Rattle.reference_machine.specs.Order.{inserted, in_order}
+use Rattle.reference_machine.proofs.Apart.{all_imply}
+use Rattle.reference_machine.proofs.Ordered.{all_inserted, all_ordered}
 
 -- ---- what holds of each item
-
-pub all_imply : {X : Type 0} (P Q : X → Type 0) → ((x : X) → P x → Q x) → (xs : List X)
-    → AllByRecursion P xs → AllByRecursion Q xs
-all_imply P Q h [] all = tt
-all_imply P Q h (x ∷ xs) all = (h x all.0, all_imply P Q h xs all.1)
 
 pub all_filtered : {X : Type 0} (P : X → Type 0) (p : X → Bool) (xs : List X) → AllByRecursion P xs
     → AllByRecursion P (filter p xs)
@@ -22,22 +19,7 @@ all_filtered P p (x ∷ xs) all =
       | false ↦ all_filtered P p xs all.1
     ]
 
-all_inserted : {X : Type 0} (P : X → Type 0) (before : X → X → Bool) (x : X) (ys : List X) → P x
-    → AllByRecursion P ys → AllByRecursion P (inserted before x ys)
-all_inserted P before x [] h all = (h, tt)
-all_inserted P before x (y ∷ ys) h all =
-    elim (before y x) as (λ b. AllByRecursion P (cond b (y ∷ inserted before x ys) (x ∷ y ∷ ys))) [
-      | true ↦ (all.0, all_inserted P before x ys h all.1)
-      | false ↦ (h, all)
-    ]
-
-all_in_order : {X : Type 0} (P : X → Type 0) (before : X → X → Bool) (xs : List X)
-    → AllByRecursion P xs → AllByRecursion P (in_order before xs)
-all_in_order P before [] all = tt
-all_in_order P before (x ∷ xs) all =
-    all_inserted P before x (in_order before xs) all.0 (all_in_order P before xs all.1)
-
--- the other way round: what holds of each item in order holds of each
+-- what holds of each item in order holds of each
 all_outserted : {X : Type 0} (P : X → Type 0) (before : X → X → Bool) (x : X) (ys : List X)
     → AllByRecursion P (inserted before x ys) → P x × AllByRecursion P ys
 all_outserted P before x [] all = all
@@ -180,7 +162,7 @@ pub ordered_last : {X : Type 0} (key : X → ℕ) (z : X) (xs ys : List X)
     → in_order (by key) (xs ++ z ∷ ys) ≡ in_order (by key) (xs ++ ys) ++ z ∷ []
 ordered_last key z [] ys low high =
     inserted_last key z (in_order (by key) ys)
-    (all_in_order (λ y. key y < key z) (by key) ys high)
+    (all_ordered (λ y. key y < key z) (by key) ys high)
 ordered_last key z (x ∷ xs) ys low high =
     ap (inserted (by key) x) (ordered_last key z xs ys low.1 high)
     ∙ inserted_before key x z (in_order (by key) (xs ++ ys)) (omega (arith, low.0))

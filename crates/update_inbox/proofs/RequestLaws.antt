@@ -13,6 +13,7 @@ use Rattle.reference_machine.specs.Events.{signalled, with_staged}
 use Rattle.reference_machine.specs.Machine.{Machine}
 use Rattle.reference_machine.specs.Order.{in_order}
 use Rattle.reference_machine.specs.declared.snapshot.StagedPair.{StagedPair}
+use Rattle.reference_machine.proofs.Apart.{all_imply}
 use Rattle.reference_machine.proofs.Ordered.{all_ordered, ordered_length}
 use Rattle.stored_vars.specs.Holds.{bytes_in, indications_of, last_staged_of, pairs_of, staged_at}
 use Rattle.stored_vars.specs.Holds.{staged_of}
@@ -27,7 +28,7 @@ use Rattle.stored_vars.proofs.Frames.{AreVariables, Edit, change_of, platforms_a
 use Rattle.stored_vars.proofs.Frames.Edit.{Sets}
 use Rattle.stored_vars.proofs.Kept.{stage_within, units_stay}
 use Rattle.stored_vars.proofs.OtherLaws.{number_again, pair_again}
-use Rattle.stored_vars.proofs.Sorting.{all_imply, all_unordered, ordered_last}
+use Rattle.stored_vars.proofs.Sorting.{all_unordered, ordered_last}
 use Rattle.update_inbox.specs.Batches.{signal_batch}
 use Rattle.update_inbox.specs.Staging.{batch_of_next, free_stage, next_delivery}
 use Rattle.update_inbox.specs.Staging.{stage_batch}

@@ -2,7 +2,7 @@
 
 ghost use Rattle.std.specs.Prelude.{◌≡◌, ◌+◌, ◌≤◌, ◌<◌, IfOk, OnOk, OnErr, IfSome, true};
 ghost use Rattle.cu_base.specs.Causes.{HasCauseOf};
-ghost use Rattle.stored_vars.specs.Holds.{last_staged_of, staged_at};
+ghost use Rattle.stored_vars.specs.Holds.{last_staged_of};
 ghost use Rattle.update_inbox.specs.Answers.{NotesBatch, NotesOpened, NotesOpening};
 ghost use Rattle.update_inbox.specs.Batches.{HasStored, MayHaveStored};
 ghost use Rattle.update_inbox.specs.Staging.{StagingAnswers, batch_of, free_stage, next_delivery};
@@ -15,11 +15,12 @@ use crate::checks::check_list;
 use crate::fault::inbox_fault_of;
 use crate::opening::open_store;
 use crate::sets::set_of;
+use crate::waiting::staged_at;
 use bench_model::Platform;
 use cu_base::{NoMemory, bytes_of_u64};
 use reference_machine::StagedPair;
 use std::alloc::Global;
-use stored_vars::{StoredVar, pair_bytes, stored_number, stored_pair};
+use stored_vars::{StoredVar, pair_bytes, stored_number};
 use var_log::Batch;
 use var_store::{Note, VarStore};
 
@@ -99,23 +100,11 @@ fn free_number(store: &VarStore) -> Option<u8>
     ensures bound { IfSome result (λ k. k < 8) }
 {
     for number in 0..8 {
-        if staged(store, number).is_none() {
+        if staged_at(store, number).is_none() {
             return Some(number);
         }
     }
     None
-}
-
-/// The delivery that a variable keeps.
-fn staged(store: &VarStore, number: u8) -> Option<StagedPair>
-    requires { number < 8 }
-    ensures { result ≡ staged_at (variables_of store.now) number }
-{
-    let variable = StoredVar::Stage(number);
-    match store.get(variable.name(), &variable.guid()) {
-        Some(value) => stored_pair(value.bytes),
-        None => None,
-    }
 }
 
 /// The batch that stages a delivery.

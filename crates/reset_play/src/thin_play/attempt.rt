@@ -3,7 +3,8 @@
 ghost use Rattle.std.specs.Prelude.{◌≡◌, ◌<◌, ◌^◌, [], IfOk, IsTrue, length, option_map, unwrap_or};
 ghost use Rattle.reference_machine.specs.Boots.{element_of};
 ghost use Rattle.reference_machine.specs.Spent.Standing.{Open};
-ghost use Rattle.reset_play.specs.Thin.{thin, is_thin, thin_item};
+ghost use Rattle.delivery_formats.specs.TrueFormats.{true_formats};
+ghost use Rattle.reset_play.specs.Thin.{is_thin, thin_item};
 ghost use Rattle.reset_play.specs.ThinValues.{item_of, parts_of};
 ghost use Rattle.reset_play.specs.Whole.{file_key, file_unit};
 
@@ -70,8 +71,8 @@ pub fn attempt_of<'a>(
     parts: &Option<Parts<'a>>,
 ) -> Result<SpentTry<'a>, NoMemory>
     requires item { item_of item.now ≡ thin_item (file.now).bytes }
-    requires parts { option_map parts_of parts.now ≡ thin.parts (item_of item.now).image 0 }
-    ensures { IfOk result (λ attempt. attempt ≡ element_of thin (file_unit file.now) Open) }
+    requires parts { option_map parts_of parts.now ≡ true_formats.parts (item_of item.now).image 0 }
+    ensures { IfOk result (λ attempt. attempt ≡ element_of true_formats (file_unit file.now) Open) }
 {
     let key = key_of(alloc, file)?;
     let (version, floor, payload) = told_by(parts);

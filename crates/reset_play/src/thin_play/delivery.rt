@@ -5,7 +5,7 @@ ghost use Rattle.std.specs.List.{list_any};
 ghost use Rattle.reference_machine.specs.Deliveries.{is_target};
 ghost use Rattle.reset_play.specs.Plays.{is_thin_on};
 ghost use Rattle.reset_play.specs.Thin.{has_thin_header, has_thin_body, has_thin_image, is_thin};
-ghost use Rattle.reset_play.specs.Thin.{thin};
+ghost use Rattle.delivery_formats.specs.TrueFormats.{true_formats};
 ghost use Rattle.reset_play.specs.ThinValues.{item_of, thin_said, parts_of};
 
 use bench_model::{Board, Device};
@@ -121,7 +121,7 @@ fn has_target(item: &ThinItem<'_>, devices: &[Device]) -> bool
 /// memory where no section is due.
 pub fn parts_in(alloc: Global, image: &[u8]) -> Option<Parts<'_>>
     requires { length image.now < 2 ^ 32 }
-    ensures { option_map parts_of result ≡ thin.parts image.now 0 }
+    ensures { option_map parts_of result ≡ true_formats.parts image.now 0 }
 {
     match split(alloc, image, 0) {
         Ok(parts) => Some(parts),

@@ -10,6 +10,7 @@ ghost use Rattle.reference_machine.specs.Order.{in_order, inserted};
 
 use bench_model::is_same_name;
 use cu_base::{NoMemory, Text};
+use reference_machine::compare_names;
 use std::alloc::Global;
 use std::marker::Model;
 
@@ -39,25 +40,11 @@ impl<'a> StoredFile<'a> {
 }
 
 /// Whether the file of the first name is taken before that of the second: by the upper-cased names.
+#[tactic(auto, using(reference_machine::proofs::Sorted::taken_before_is))]
 pub fn is_taken_before(a: &str, b: &str) -> bool
     ensures { result ≡ is_taken_before a.now b.now }
 {
-    let mut left = a.as_bytes();
-    let mut right = b.as_bytes();
-    'bytes: loop {
-        let Some((y, ys)) = right.split_first() else {
-            return false;
-        };
-        let Some((x, xs)) = left.split_first() else {
-            return true;
-        };
-        let (x, y) = (x.to_ascii_uppercase(), y.to_ascii_uppercase());
-        if x != y {
-            return x < y;
-        }
-        left = xs;
-        right = ys;
-    }
+    compare_names(a, b).is_lt()
 }
 
 /// Whether a file has this name.

@@ -8,7 +8,7 @@ ghost use Rattle.reference_machine.specs.Events.{boot_done, dropped, outcome, tr
 ghost use Rattle.reference_machine.specs.Events.{machine_after};
 ghost use Rattle.reset_play.specs.Plays.{has_one_device, can_play, is_thin_on, thin_trace};
 ghost use Rattle.reset_play.specs.Plays.{loaded_bytes};
-ghost use Rattle.reset_play.specs.Thin.{thin};
+ghost use Rattle.delivery_formats.specs.TrueFormats.{true_formats};
 ghost use Rattle.reference_machine.specs.TraceValues.{entry_value};
 ghost use Rattle.reference_machine.specs.declared.unit.End.TheVariants.{Sealed};
 
@@ -60,14 +60,15 @@ pub fn run_events<'a>(
     ensures ok { OnOk result
         (map entry_value trace.new.items
         ≡ map entry_value trace.old.items
-        ++ trace_of thin (loaded_bytes loaded.now.items) platform.old events.now) }
+        ++ trace_of true_formats (loaded_bytes loaded.now.items) platform.old events.now) }
     ensures value { OnOk result
         (platform.new
-        ≡ machine_after thin (loaded_bytes loaded.now.items) platform.old events.now) }
+        ≡ machine_after true_formats (loaded_bytes loaded.now.items) platform.old events.now) }
     ensures err { OnErr result
         ((n : ℕ) × (map entry_value trace.new.items
         ≡ map entry_value trace.old.items
-        ++ take n (trace_of thin (loaded_bytes loaded.now.items) platform.old events.now))) }
+        ++ take n (trace_of true_formats
+        (loaded_bytes loaded.now.items) platform.old events.now))) }
     ensures size { length trace.new.items ≤ length trace.old.items + length events.now }
 {
     for event in events {
@@ -88,7 +89,7 @@ fn answer_of<'a>(
     requires played { IsTrue (can_play platform.old.board loaded.now.items event.now) }
     ensures ok { IfOk result
         (λ entry. (entry_value entry, platform.new)
-        ≡ outcome thin (loaded_bytes loaded.now.items) platform.old event.now) }
+        ≡ outcome true_formats (loaded_bytes loaded.now.items) platform.old event.now) }
     ensures frame { platform.new.board ≡ platform.old.board }
     ensures counts { OnOk result (platform.new.batches ≤ platform.old.batches + 200) }
 {
@@ -126,7 +127,7 @@ fn boot_answer(platform: &mut ListPlatform<'_>, alloc: Global) -> Result<Entry, 
     requires { platform.old.batches ≤ 2 ^ 59 }
     ensures ok { IfOk result
         (λ entry. (entry_value entry, platform.new)
-        ≡ boot_done (boot_of thin platform.old Sealed)) }
+        ≡ boot_done (boot_of true_formats platform.old Sealed)) }
     ensures frame { platform.new.board ≡ platform.old.board }
     ensures counts { OnOk result (platform.new.batches ≤ platform.old.batches + 200) }
 {

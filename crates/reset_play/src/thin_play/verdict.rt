@@ -4,7 +4,7 @@ ghost use Rattle.std.specs.Prelude.{◌≡◌, [], IsTrue, nat_le, option_map, S
 ghost use Rattle.reference_machine.specs.Deliveries.{BootUnit};
 ghost use Rattle.reference_machine.specs.Machine.{Machine};
 ghost use Rattle.reset_play.specs.Plays.{has_one_device};
-ghost use Rattle.reset_play.specs.Thin.{thin};
+ghost use Rattle.delivery_formats.specs.TrueFormats.{true_formats};
 ghost use Rattle.reset_play.specs.ThinValues.{parts_of};
 ghost use Rattle.reference_machine.specs.Verdicts.{capacity_of, refusal, refusal_with};
 
@@ -36,7 +36,7 @@ fn refusal_of_parts(
     requires dependency { (parts_of parts.now).dependency ≡ [] }
     ensures { (m : Machine) (u : BootUnit) → m.board ≡ board.now → m.list ≡ list.now →
         u.image ≡ image.now → u.key.device ≡ 0
-        → result ≡ refusal_with thin m u (Some (parts_of parts.now)) }
+        → result ≡ refusal_with true_formats m u (Some (parts_of parts.now)) }
 {
     if !is_admitted(board.digests(), image) {
         return Some(LAST_ATTEMPT_STATUS_ERROR_AUTH_ERROR);
@@ -59,9 +59,10 @@ pub fn refusal(
     parts: &Option<Parts<'_>>,
 ) -> Option<u32>
     requires one { IsTrue (has_one_device board.now) }
-    requires parts { option_map parts_of parts.now ≡ thin.parts image.now 0 }
+    requires parts { option_map parts_of parts.now ≡ true_formats.parts image.now 0 }
     ensures { (m : Machine) (u : BootUnit) → m.board ≡ board.now → m.list ≡ list.now →
-        u.image ≡ image.now → u.key.device ≡ 0 → u.head.support ≡ 0 → result ≡ refusal thin m u }
+        u.image ≡ image.now → u.key.device ≡ 0 → u.head.support ≡ 0 → result
+        ≡ refusal true_formats m u }
 {
     match parts {
         Some(parts) => refusal_of_parts(board, list, image, parts),

@@ -3,7 +3,7 @@
 ghost use Rattle.std.specs.Prelude.{◌≡◌, ◌≤◌, ◌+◌, ◌^◌, find, None, IfOk, OnOk};
 ghost use Rattle.reference_machine.specs.Boots.{boot_of};
 ghost use Rattle.reference_machine.specs.Spent.{is_open};
-ghost use Rattle.reset_play.specs.Thin.{thin};
+ghost use Rattle.delivery_formats.specs.TrueFormats.{true_formats};
 ghost use Rattle.reset_play.specs.Whole.{between_tasks, tasks_done, heal_tasks};
 ghost use Rattle.reference_machine.specs.declared.unit.End.TheVariants.{Sealed};
 
@@ -19,7 +19,7 @@ impl<'a> ListPlatform<'a> {
         requires steps { report.old.steps ≤ 2 ^ 30 }
         ensures ok { OnOk result
             (between_tasks self.new report.new
-            ≡ tasks_done thin (between_tasks self.old report.old)
+            ≡ tasks_done true_formats (between_tasks self.old report.old)
             (heal_tasks (find is_open self.old.list))) }
         ensures rule { OnOk result (find is_open self.new.list ≡ None) }
         ensures frame { self.new.board ≡ self.old.board }
@@ -39,7 +39,7 @@ impl<'a> ListPlatform<'a> {
     pub fn boot(&mut self, alloc: Global) -> Result<Report, NoMemory>
         requires { self.old.batches ≤ 2 ^ 59 }
         ensures ok { IfOk result
-            (λ report. between_tasks self.new report ≡ boot_of thin self.old Sealed) }
+            (λ report. between_tasks self.new report ≡ boot_of true_formats self.old Sealed) }
         ensures frame { self.new.board ≡ self.old.board }
         ensures counts { OnOk result (self.new.batches ≤ self.old.batches + 131) }
     {

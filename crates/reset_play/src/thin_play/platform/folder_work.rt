@@ -8,7 +8,7 @@ ghost use Rattle.reference_machine.specs.Boots.BootBatch.{Does};
 ghost use Rattle.reference_machine.specs.Boots.BootTask.{Commits};
 ghost use Rattle.reset_play.specs.Plays.{is_thin_on};
 ghost use Rattle.reference_machine.specs.Spent.{is_open};
-ghost use Rattle.reset_play.specs.Thin.{thin};
+ghost use Rattle.delivery_formats.specs.TrueFormats.{true_formats};
 ghost use Rattle.reset_play.specs.Whole.{between_tasks, task_done, tasks_done, file_unit};
 ghost use Rattle.reset_play.specs.Whole.{marked_tasks, all_marked_tasks, marks_of};
 
@@ -75,7 +75,7 @@ impl<'a> ListPlatform<'a> {
         requires steps { report.old.steps ≤ 2 ^ 30 }
         ensures ok { OnOk result
             (between_tasks self.new report.new
-            ≡ task_done thin (between_tasks self.old report.old)
+            ≡ task_done true_formats (between_tasks self.old report.old)
             (Commits (Does (file_unit file.now)))) }
         ensures rule { OnOk result (find is_open self.new.list ≡ None) }
         ensures frame { self.new.board ≡ self.old.board }
@@ -114,7 +114,7 @@ impl<'a> ListPlatform<'a> {
         requires steps { report.old.steps ≤ 2 ^ 30 }
         ensures ok { OnOk result
             (between_tasks self.new report.new
-            ≡ tasks_done thin (between_tasks self.old report.old)
+            ≡ tasks_done true_formats (between_tasks self.old report.old)
             (if is_spent then [] else Commits (Does (file_unit file.now)) ∷ [])) }
         ensures rule { OnOk result (find is_open self.new.list ≡ None) }
         ensures frame { self.new.board ≡ self.old.board }
@@ -143,7 +143,7 @@ impl<'a> ListPlatform<'a> {
         requires steps { report.old.steps ≤ 2 ^ 30 }
         ensures ok { OnOk result
             (between_tasks self.new report.new
-            ≡ tasks_done thin (between_tasks self.old report.old)
+            ≡ tasks_done true_formats (between_tasks self.old report.old)
             (marked_tasks file.now is_spent)) }
         ensures rule { OnOk result (find is_open self.new.list ≡ None) }
         ensures frame { self.new.board ≡ self.old.board }
@@ -172,7 +172,7 @@ impl<'a> ListPlatform<'a> {
         requires steps { report.old.steps ≤ 2 ^ 29 }
         ensures ok { OnOk result
             (between_tasks self.new report.new
-            ≡ tasks_done thin (between_tasks self.old report.old)
+            ≡ tasks_done true_formats (between_tasks self.old report.old)
             (all_marked_tasks files.now marks.now)) }
         ensures frame { self.new.board ≡ self.old.board }
         ensures counts { OnOk result
@@ -191,7 +191,7 @@ impl<'a> ListPlatform<'a> {
         requires steps { report.old.steps ≤ 2 ^ 30 }
         ensures ok { OnOk result
             (between_tasks self.new report.new
-            ≡ tasks_done thin (between_tasks self.old report.old) (prune_tasks self.old)) }
+            ≡ tasks_done true_formats (between_tasks self.old report.old) (prune_tasks self.old)) }
         ensures frame { (self.new.list ≡ self.old.list) × (self.new.board ≡ self.old.board) }
         ensures counts { OnOk result
             ((self.new.batches ≤ self.old.batches + 1)
@@ -213,7 +213,8 @@ impl<'a> ListPlatform<'a> {
         requires steps { report.old.steps ≤ 2 ^ 28 }
         ensures ok { OnOk result
             (between_tasks self.new report.new
-            ≡ tasks_done thin (between_tasks self.old report.old) (folder_tasks thin self.old)) }
+            ≡ tasks_done true_formats (between_tasks self.old report.old)
+            (folder_tasks true_formats self.old)) }
         ensures frame { self.new.board ≡ self.old.board }
         ensures counts { OnOk result (self.new.batches ≤ self.old.batches + 130) }
     {

@@ -9,7 +9,7 @@ ghost use Rattle.reference_machine.specs.Boots.BootBatch.{Settles, Clears};
 ghost use Rattle.reference_machine.specs.Boots.BootTask.{Commits, Removes};
 ghost use Rattle.reference_machine.specs.Report.{report_value};
 ghost use Rattle.reference_machine.specs.Spent.{is_open, is_closed};
-ghost use Rattle.reset_play.specs.Thin.{thin};
+ghost use Rattle.delivery_formats.specs.TrueFormats.{true_formats};
 ghost use Rattle.reset_play.specs.Whole.{between_tasks, task_done};
 ghost use Rattle.reference_machine.specs.declared.unit.End.TheVariants.{Sealed};
 ghost use Rattle.reference_machine.specs.declared.unit.Kind.TheVariants.{Try};
@@ -116,7 +116,8 @@ impl<'a> ListPlatform<'a> {
         requires steps { report.old.steps ≤ 2 ^ 31 }
         ensures ok { OnOk result
             (between_tasks self.new report.new
-            ≡ task_done thin (between_tasks self.old report.old) (Commits (Settles kind Sealed))) }
+            ≡ task_done true_formats (between_tasks self.old report.old) (Commits
+            (Settles kind Sealed))) }
         ensures rule { OnOk result (find is_open self.new.list ≡ None) }
         ensures frame { self.new.board ≡ self.old.board }
         ensures counts { OnOk result
@@ -142,7 +143,7 @@ impl<'a> ListPlatform<'a> {
         requires steps { report.old.steps ≤ 2 ^ 31 }
         ensures ok { OnOk result
             (between_tasks self.new report.new
-            ≡ task_done thin (between_tasks self.old report.old) (Removes serial)) }
+            ≡ task_done true_formats (between_tasks self.old report.old) (Removes serial)) }
         ensures frame { (self.new.list ≡ self.old.list) × (self.new.board ≡ self.old.board) }
         ensures counts { OnOk result
             ((self.new.batches ≡ self.old.batches) × (report.new.steps ≡ report.old.steps + 1)) }
@@ -158,7 +159,7 @@ impl<'a> ListPlatform<'a> {
         requires batches { self.old.batches ≤ 2 ^ 63 }
         requires steps { report.old.steps ≤ 2 ^ 31 }
         ensures value { between_tasks self.new report.new
-            ≡ task_done thin (between_tasks self.old report.old) (Commits Clears) }
+            ≡ task_done true_formats (between_tasks self.old report.old) (Commits Clears) }
         ensures frame { self.new.board ≡ self.old.board }
         ensures counts { (self.new.batches ≡ self.old.batches + 1)
             × (report.new.steps ≡ report.old.steps + 1) }

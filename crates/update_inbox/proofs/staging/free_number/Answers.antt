@@ -10,4 +10,4 @@ returns-then-is_none-clause-value c =
     sym (first_is (λ (k : ℕ). is_none (staged_at (variables_of c.args.store.now) k)) 0 8
     c.loop-number.number (omega arith) (omega arith)
     (λ j from below. c.loop-number.invariant j below)
-    (sym (ap is_none c.staged.ensures) ∙ ap not c.if-is_none.ensures))
+    (sym (ap is_none c.staged_at.ensures) ∙ ap not c.if-is_none.ensures))

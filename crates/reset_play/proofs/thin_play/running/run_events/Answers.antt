@@ -4,7 +4,7 @@ use Rattle.std.proofs.lemmas.List.{map_push}
 use Rattle.reference_machine.specs.declared.event.Event.{Event}
 use Rattle.reference_machine.specs.Events.{trace_of}
 use Rattle.reset_play.specs.Plays.{loaded_bytes}
-use Rattle.reset_play.specs.Thin.{thin}
+use Rattle.delivery_formats.specs.TrueFormats.{true_formats}
 use Rattle.reference_machine.specs.TraceValues.{EntryValue, entry_value}
 use Rattle.reset_play.proofs.PlayEvents.{taken_more, dropped_more, taken_whole, none_behind}
 use Rattle.reset_play.proofs.PlayEvents.{length_more, told_next, machine_next}
@@ -13,9 +13,10 @@ use Rattle.reset_play.proofs.thin_play.running.run_events.Goals as goal
 pub loop-event-preserved : goal.loop-event-preserved
 loop-event-preserved c =
     let told : List EntryValue =
-    trace_of thin (loaded_bytes c.args.loaded.now.items) c.args.platform.now c.args.events.now in
+    trace_of true_formats
+    (loaded_bytes c.args.loaded.now.items) c.args.platform.now c.args.events.now in
     let rest : entry_value c.in_ok-entry.entry
-    ∷ trace_of thin (loaded_bytes c.args.loaded.now.items) c.answer_of.new.platform
+    ∷ trace_of true_formats (loaded_bytes c.args.loaded.now.items) c.answer_of.new.platform
     (drop (c.loop-event.event-index + 1) c.args.events.now)
     ≡ drop c.loop-event.event-index told =
     told_next c.args.loaded.now.items c.args.events.now c.loop-event.event-index c.event-item.result
@@ -51,11 +52,13 @@ loop-event-preserved c =
 pub returns-clause-ok : goal.returns-clause-ok
 returns-clause-ok c =
     let told : List EntryValue =
-    trace_of thin (loaded_bytes c.args.loaded.now.items) c.args.platform.now c.args.events.now in
+    trace_of true_formats
+    (loaded_bytes c.args.loaded.now.items) c.args.platform.now c.args.events.now in
     let none : drop c.loop-event.event-index c.args.events.now ≡ [] =
     none_behind c.args.events.now c.loop-event.event-index c.loop-event-test.false in
     let rest : [] ≡ drop c.loop-event.event-index told =
-    sym (ap (trace_of thin (loaded_bytes c.args.loaded.now.items) c.loop-event.platform) none)
+    sym (ap (trace_of true_formats
+    (loaded_bytes c.args.loaded.now.items) c.loop-event.platform) none)
     ∙ c.loop-event.invariant.rest in
     c.loop-event.invariant.said
     ∙ ap (λ (l : List EntryValue). map entry_value c.args.trace.now.items ++ l)

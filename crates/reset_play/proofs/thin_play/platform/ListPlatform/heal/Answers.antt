@@ -1,6 +1,6 @@
 use Rattle.std.proofs.Common.{rules, ◌≡◌, None, IsSome, find, sym, ap, subst}
 use Rattle.reference_machine.specs.Spent.{is_open}
-use Rattle.reset_play.specs.Thin.{thin}
+use Rattle.delivery_formats.specs.TrueFormats.{true_formats}
 use Rattle.reset_play.specs.Whole.{between_tasks, tasks_done, heal_tasks}
 use Rattle.reset_play.proofs.Held.{rests_held, held_pends}
 use Rattle.reset_play.proofs.thin_play.platform.ListPlatform.heal.Goals as goal
@@ -18,7 +18,7 @@ returns-then-is_none-clause-ok c =
     subst (λ m. find is_open m.list ≡ None) c.self.view_is
     (rests_held c.self.inside.done.items c.self.inside.claimed c.self.invariant.closed_before none)
     in
-    sym (ap (λ o. tasks_done thin (between_tasks c.args.self.now c.args.report.now)
+    sym (ap (λ o. tasks_done true_formats (between_tasks c.args.self.now c.args.report.now)
     (heal_tasks o)) rests)
 
 pub settle-requires-clause-pends : goal.settle-requires-clause-pends

@@ -12,7 +12,8 @@ use Rattle.reset_play.specs.Plays.{is_thin_on}
 use Rattle.reference_machine.specs.Report.{report_value}
 use Rattle.reference_machine.specs.Spent.{Element, is_open}
 use Rattle.reference_machine.specs.Spent.Standing.{Closed}
-use Rattle.reset_play.specs.Thin.{thin, is_thin, thin_item}
+use Rattle.delivery_formats.specs.TrueFormats.{true_formats}
+use Rattle.reset_play.specs.Thin.{is_thin, thin_item}
 use Rattle.reference_machine.specs.Verdicts.{refusal}
 use Rattle.reset_play.specs.Whole.{open_rest, task_done, file_unit}
 use Rattle.reset_play.proofs.Held.{none_held, held_none}
@@ -42,7 +43,8 @@ returns-in_ok-close-in-Some-clause-ok c =
     let image : (file_unit c.args.file.now).image ≡ c.item_in-item.result.image.now =
     ap (λ (x : File). (thin_item x.bytes).image) (sym c.file.view_is)
     ∙ sym (ap (λ (i : Item). i.image) c.item_in-item.ensures.value) in
-    let is : refusal thin c.args.self.now (file_unit c.args.file.now) ≡ Some c.in-Some.status =
+    let is : refusal true_formats c.args.self.now (file_unit c.args.file.now)
+    ≡ Some c.in-Some.status =
     sym (c.refusal.ensures c.args.self.now (file_unit c.args.file.now) board list image refl refl)
     ∙ c.in-Some.is in
     let now : first_moment ≡ c.args.self.now.now = ap (λ (m : Machine). m.now) c.self.view_is in
@@ -54,7 +56,7 @@ returns-in_ok-close-in-Some-clause-ok c =
           (Some (Refused c.in-Some.status)) first_moment;
     })
     (c.attempt.view_is ∙ c.in_ok-attempt.ensures)
-    ∙ ap (λ (t : EfiTime). element_of thin (file_unit c.args.file.now)
+    ∙ ap (λ (t : EfiTime). element_of true_formats (file_unit c.args.file.now)
     (Closed (Some (Refused c.in-Some.status)) t)) now
     )
 
@@ -73,11 +75,12 @@ returns-in_ok-settle-in-None-clause-ok c =
     let image : (file_unit c.args.file.now).image ≡ c.item_in-item.result.image.now =
     ap (λ (x : File). (thin_item x.bytes).image) (sym c.file.view_is)
     ∙ sym (ap (λ (i : Item). i.image) c.item_in-item.ensures.value) in
-    let is : refusal thin c.args.self.now (file_unit c.args.file.now) ≡ None =
+    let is : refusal true_formats c.args.self.now (file_unit c.args.file.now) ≡ None =
     sym (c.refusal.ensures c.args.self.now (file_unit c.args.file.now) board list image refl refl)
     ∙ c.in-None.is in
     c.in_ok-settle-in-None.ensures.ok
-    ∙ ap (λ (b : BootState). task_done thin b (Commits (Settles Try Sealed))) c.claim.ensures.value
+    ∙ ap (λ (b : BootState). task_done true_formats b (Commits
+    (Settles Try Sealed))) c.claim.ensures.value
     ∙ tried_claimed c.args.self.now
     (report_value c.args.report.now) c.args.file.now c.in_ok-attempt.attempt is
     c.in_ok-attempt.ensures

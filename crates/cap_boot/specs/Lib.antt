@@ -1,0 +1,12 @@
+pub mod Tickets
+pub mod Stands
+pub mod Situations
+pub mod Going
+pub mod Keeps
+pub mod Tasks
+pub mod Opening
+pub mod Commits
+pub mod Booting
+pub mod Begun
+pub mod Given
+pub mod Faults

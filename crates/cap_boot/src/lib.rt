@@ -1,0 +1,20 @@
+//! A boot of a platform on a bench: what it does to each image of the flash is what a boot of the
+//! reference machine does, whole or stopped.
+#![tactic(auto)]
+
+mod booting;
+mod fault;
+mod folder;
+mod laws;
+mod opening;
+mod single_steps;
+mod step_batches;
+mod to_be_built;
+mod units;
+mod waiting;
+mod writing;
+
+pub use booting::boot;
+pub use fault::BootFault;
+pub use laws::{an_image_stands_for_one_of_two, begun_tickets_are_of_attempts};
+pub use reference_machine::Report;
