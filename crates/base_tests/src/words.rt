@@ -1,5 +1,6 @@
-//! Examples from the UEFI specification and RFC 9562, worked by hand, and one call with ample
-//! memory of each function that may want memory.
+//! Examples from the UEFI specification, worked by hand, and one call with ample memory of each
+//! function that may want memory. Which texts are GUIDs or moments is shown by runs of the built
+//! program.
 
 use cu_base::{
     BaseFault, Blob, CountLedger, EfiStatus, EfiTime, Failed, Guid, Ledger, NoMemory, Numbers,
@@ -11,61 +12,14 @@ const FMP_CAPSULE: [u8; 16] = [
     0xed, 0xd5, 0xcb, 0x6d, 0x2d, 0xe8, 0x44, 0x4c, 0xbd, 0xa1, 0x71, 0x94, 0x19, 0x9a, 0xd9, 0x2a,
 ];
 
-const GLOBAL_VARIABLES: [u8; 16] = [
-    0x61, 0xdf, 0xe4, 0x8b, 0xca, 0x93, 0xd2, 0x11, 0xaa, 0x0d, 0x00, 0xe0, 0x98, 0x03, 0x2b, 0x8c,
-];
-
-const CAPSULE_REPORT: [u8; 16] = [
-    0x46, 0x8c, 0xb6, 0x39, 0xfb, 0xf7, 0x1b, 0x44, 0xb6, 0xec, 0x16, 0xb0, 0xf6, 0x98, 0x21, 0xf3,
-];
-
 #[test]
-fn guids_have_a_text(rt: HostRuntime) -> Result<(), Fail> {
-    let cases = [
-        ("6dcbd5ed-e82d-4c44-bda1-7194199ad92a", FMP_CAPSULE),
-        ("8be4df61-93ca-11d2-aa0d-00e098032b8c", GLOBAL_VARIABLES),
-        ("39b68c46-f7fb-441b-b6ec-16b0f69821f3", CAPSULE_REPORT),
-    ];
-    for (text, bytes) in cases {
-        let guid = Guid { bytes };
-        assert_eq!(rt; Guid::from_text(text), Ok(guid), "{text}");
-        let written = guid.to_text(rt.alloc())?;
-        assert_eq!(rt; written.as_str(), text);
-    }
+fn a_guid_has_a_text(rt: HostRuntime) -> Result<(), Fail> {
+    let text = "6dcbd5ed-e82d-4c44-bda1-7194199ad92a";
+    let guid = Guid { bytes: FMP_CAPSULE };
+    assert_eq!(rt; Guid::from_text(text), Ok(guid));
+    assert_eq!(rt; guid.to_text(rt.alloc())?.as_str(), text);
+    assert_eq!(rt; Guid::from_text(""), Err(BaseFault::BadGuidText));
     Ok(())
-}
-
-#[test]
-fn guids_are_read_in_four_forms(rt: HostRuntime) {
-    let taken = [
-        "6DCBD5ED-E82D-4C44-BDA1-7194199AD92A",
-        "6dcbd5ede82d4c44bda17194199ad92a",
-        "{6dcbd5ed-e82d-4c44-bda1-7194199ad92a}",
-        "urn:uuid:6dcbd5ed-e82d-4c44-bda1-7194199ad92a",
-    ];
-    for text in taken {
-        assert_eq!(rt;
-            Guid::from_text(text),
-            Ok(Guid { bytes: FMP_CAPSULE }),
-            "{text}"
-        );
-    }
-    let refused = [
-        "",
-        "6dcbd5ed-e82d-4c44-bda1-7194199ad92",
-        "6dcbd5ed-e82d-4c44-bda1-7194199ad92ab",
-        "6dcbd5ede-82d-4c44-bda1-7194199ad92a",
-        "6dcbd5eg-e82d-4c44-bda1-7194199ad92a",
-        "(6dcbd5ed-e82d-4c44-bda1-7194199ad92a)",
-        " 6dcbd5ed-e82d-4c44-bda1-7194199ad92a",
-    ];
-    for text in refused {
-        assert_eq!(rt;
-            Guid::from_text(text),
-            Err(BaseFault::BadGuidText),
-            "{text}"
-        );
-    }
 }
 
 fn day_of(year: u16, month: u8, day: u8) -> EfiTime {
@@ -105,35 +59,9 @@ fn moments_are_read_from_their_text(rt: HostRuntime) {
         ..day_of(2024, 5, 6)
     };
     assert_eq!(rt; EfiTime::from_text("2024-05-06T23:59:59"), Ok(last_second));
-}
-
-#[test]
-fn other_texts_are_no_moments(rt: HostRuntime) {
-    let refused = [
-        ("the year before", "1899-12-31T23:59:59"),
-        ("no month", "2024-00-06T07:08:09"),
-        ("a thirteenth month", "2024-13-06T07:08:09"),
-        ("no day", "2024-05-00T07:08:09"),
-        ("a day after the last", "2024-05-32T07:08:09"),
-        ("a 31st in a month of 30 days", "2024-04-31T07:08:09"),
-        ("a leap day of 1900", "1900-02-29T07:08:09"),
-        ("a leap day of 2023", "2023-02-29T07:08:09"),
-        ("a day after a leap day", "2024-02-30T07:08:09"),
-        ("a 25th hour", "2024-05-06T24:00:00"),
-        ("a 61st minute", "2024-05-06T07:60:09"),
-        ("a leap second", "2024-05-06T23:59:60"),
-        ("a small t", "2024-05-06t07:08:09"),
-        ("a space for T", "2024-05-06 07:08:09"),
-        ("a zone", "2024-05-06T07:08:09Z"),
-        ("a digit too few", "2024-05-06T07:08:9"),
-        ("a sign for a digit", "2024-05-06T07:08:+9"),
-        ("a letter for a digit", "2024-05-06T07:0a:09"),
-        ("other marks", "2024/05/06T07:08:09"),
-        ("no text", ""),
-    ];
-    for (name, text) in refused {
-        assert_eq!(rt; EfiTime::from_text(text), Err(BaseFault::BadTime), "{name}");
-    }
+    assert_eq!(rt; EfiTime::from_text(""), Err(BaseFault::BadTime));
+    let spaced = EfiTime::from_text("2024-05-06 07:08:09");
+    assert_eq!(rt; spaced, Err(BaseFault::BadTime));
 }
 
 #[test]

@@ -1,13 +1,12 @@
 -- A step of a boot that is one batch, by what its batch makes of the store and of the machine.
-use Rattle.std.proofs.Common.{◌≡◌, ◌⊎◌, inl, inr, ℕ, zero, suc, ◌+◌, ◌<◌, ◌≤◌, ◌^◌, List, [], ◌∷◌}
+use Rattle.std.proofs.Common.{◌≡◌, ◌⊎◌, inl, inr, ℕ, zero, suc, ◌+◌, ◌<◌, ◌≤◌, ◌^◌, List}
 use Rattle.std.proofs.Common.{◌++◌, length, get_or, refl, sym, ◌∙◌, ap, subst, arith, true, IsTrue}
 use Rattle.std.proofs.Common.{Bool, false, Ok, Err, None, Some}
 use Rattle.std.specs.Prelude.{Option, option_map}
 use Rattle.bench_model.specs.Bench.{AreImages, BenchValue, Contents, region_at, region_of}
-use Rattle.bench_model.specs.Boards.{BoardValue, IsBoard}
 use Rattle.bench_model.specs.Regions.{IsImage, IsStable}
 use Rattle.bench_model.specs.declared.limits.TheConstants.{MAX_BANK, MIN_BANK}
-use Rattle.reference_machine.specs.Boots.{BootState, BootTask, after, after_steps, next}
+use Rattle.reference_machine.specs.Boots.{BootState, BootTask, after, next}
 use Rattle.reference_machine.specs.Machine.{Machine}
 use Rattle.reference_machine.specs.Report.{ReportValue}
 use Rattle.reference_machine.specs.Stops.{is_batch}
@@ -21,7 +20,7 @@ use Rattle.var_store.specs.Stores.{HeldStore, Stands, store_value, variables_of}
 use Rattle.var_store.specs.Writes.{HasIn, IsOrReclaims, MayHaveWritten}
 use Rattle.cap_boot.specs.declared.fault.BootFault.{BootFault}
 use Rattle.cap_boot.specs.declared.fault.BootFault.TheVariants.{Flash, Volume, NoBank, Memory}
-use Rattle.cap_boot.specs.Commits.{IsInDoubt, IsStored, IsUntouched, LeavesBatch}
+use Rattle.cap_boot.specs.Commits.{IsStored, IsUntouched, LeavesBatch}
 use Rattle.cap_boot.specs.Going.{Goes, Tasks, nothing}
 use Rattle.cap_boot.specs.Situations.{IsAt, IsReady, IsStopped, IsUnderWay, Situation, StopsByFlash}
 use Rattle.cap_boot.specs.Stands.{IsClean, KeepsRegions, OutsideIs, Setting, StandsForEither}
@@ -56,6 +55,7 @@ banks_regions b c f = record {
   told = f.told;
   count = f.regions;
   long = λ k. at_region k;
+  orders = f.orders;
 }
   where
     at_region : (k : ℕ) → length (c.contents.bytes k) ≡ length (b.contents.bytes k)
@@ -243,7 +243,7 @@ pub untouched_stands : (x : Setting) (y z : Situation) (b : BootState) → IsAt 
     → IsUntouched y.store z.store y.bench z.bench
     → StandsForEither x z.bench.contents b.machine b.machine
 untouched_stands x y z b at u =
-    subst (λ (w : BenchValue). StandsForEither x w.contents b.machine b.machine) (sym u.bench)
+    subst (λ (w : Contents). StandsForEither x w b.machine b.machine) (sym u.bench)
     (at_stands x b y at)
 
 pub untouched_told : (x : Setting) (y z : Situation) (b : BootState) → IsAt x b y
@@ -311,8 +311,8 @@ few_steps x b y way at =
 pub batch_goes : {T : Type 0} (x : Setting) (Behind : Machine → List BootTask → Type 0)
     (Keeps : Machine → Machine → Type 0) (work : Tasks) (y z : Situation) (changes : List Change)
     (told : ReportValue → ReportValue) (u : T) → TakesNext x y changes told work
-    → ((b : BootState) (rest : List BootTask) → IsAt x b y → b.left ≡ work b.machine ++ rest
-    → Keeps b.machine (next x.formats b).machine)
+    → ((b : BootState) (rest : List BootTask) → IsUnderWay x b → IsAt x b y
+    → b.left ≡ work b.machine ++ rest → Keeps b.machine (next x.formats b).machine)
     → ((r : ReportValue) (p : Option ℕ)
     → record (told r) { pending = p } ≡ told (record r { pending = p }))
     → (y.report.steps + 1 < 2 ^ 32 → z.report ≡ told y.report) → ChangesBanks y.bench z.bench
@@ -341,6 +341,6 @@ batch_goes x Behind Keeps work y z changes told u takes keeps turn same f done r
               (sym at.opened.fresh.pending)
               ∙ ap told at.report ∙ sym k.report;
         };
-        keeps = keeps b rest at left;
+        keeps = keeps b rest way at left;
       };
 }

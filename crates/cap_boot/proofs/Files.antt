@@ -165,15 +165,21 @@ units_folder s n (u ∷ us) h =
     ap (λ (r : ℕ). (r == 1) && list_all is_folder_task (unit_tasks us)) h.0.route
     ∙ units_folder s (n + 1) us h.1
 
+pub found_units_folder : (f : Formats) (m : Machine) (o : Option File)
+    → list_all is_folder_task (found_unit_tasks f m o) ≡ true
+found_units_folder f m None = refl
+found_units_folder f m (Some x) =
+    let us = units f (file_delivery x) m.board in
+    let n = spent m.list x.serial in
+    units_folder x.serial (0 + n) (drop n us)
+    (rest_numbered 1 x.serial 0 n us (units_numbered f (file_delivery x) m.board))
+
 pub found_folder : (f : Formats) (m : Machine) (o : Option File)
     → list_all is_folder_task (found_tasks f m o) ≡ true
 found_folder f m None = refl
 found_folder f m (Some x) =
-    let us = units f (file_delivery x) m.board in
-    let n = spent m.list x.serial in
-    list_all_append is_folder_task (unit_tasks (drop n us)) (Removes x.serial ∷ [])
-    (units_folder x.serial (0 + n) (drop n us)
-    (rest_numbered 1 x.serial 0 n us (units_numbered f (file_delivery x) m.board))) refl
+    list_all_append is_folder_task (found_unit_tasks f m (Some x)) (Removes x.serial ∷ [])
+    (found_units_folder f m (Some x)) refl
 
 pub files_folder : (f : Formats) (m : Machine) (files : List ListedFile)
     → list_all is_folder_task (files_tasks f files m) ≡ true

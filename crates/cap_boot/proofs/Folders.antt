@@ -2,9 +2,10 @@
 use Rattle.std.proofs.Common.{◌≡◌, ℕ, ◌==◌, ◌||◌, inl, List, [], ◌∷◌, ◌++◌, flat_map}
 use Rattle.std.proofs.Common.{find, refl, sym, ◌∙◌, ap, subst, Bool, true, false, cond}
 use Rattle.std.proofs.Common.{Some, IsTrue, append_assoc, append-nil, Result, Err, drop, ◌/◌, ◌%◌}
-use Rattle.std.specs.List.{AllByRecursion, list_all, list_any}
+use Rattle.std.specs.List.{AllByRecursion, AllPairs, list_all, list_any}
 use Rattle.bench_model.specs.Bench.{BenchValue}
-use Rattle.bench_model.specs.Files.{File, FolderValue, ListedFile, has_serial, listed}
+use Rattle.bench_model.specs.Files.{File, FolderValue, HaveOtherSerials, ListedFile}
+use Rattle.bench_model.specs.Files.{has_serial, listed}
 use Rattle.reference_machine.specs.Boots.{BootState, BootTask, after_steps, file_delivery}
 use Rattle.reference_machine.specs.Boots.{file_tasks}
 use Rattle.reference_machine.specs.Boots.{files_in_order, folder_tasks, is_file, prune_tasks}
@@ -34,6 +35,7 @@ use Rattle.cap_boot.specs.Tasks.{HaveFiles, ListsFiles, clear_tasks, files_tasks
 use Rattle.cap_boot.proofs.Files.{IsCalm, at_folder, files_same, found_folder}
 use Rattle.cap_boot.proofs.Files.{list_all_append, listed_work}
 use Rattle.cap_boot.proofs.Frames.{at_same, starts_as}
+use Rattle.cap_boot.proofs.Listings.{have_told}
 use Rattle.cap_boot.proofs.Onward.{asked_at_start, reached_now, steps_ground}
 use Rattle.cap_boot.proofs.Works.{goes_where, memory_at_rest, rest_stopped, with_behind}
 use Rattle.cap_boot.proofs.Works.{works_as}
@@ -92,20 +94,14 @@ there_each (x ∷ xs) = (
   there_later x xs xs (there_each xs),
 )
 
-have_listed : (b : BenchValue) (xs : List File)
-    → AllByRecursion (λ x. has_serial x.serial b.contents.rest.folder.files ≡ true) xs
-    → HaveFiles (listed xs) b
-have_listed b [] all = tt
-have_listed b (x ∷ xs) all = (all.0, have_listed b xs all.1)
-
--- the files of a listing are there
+-- the files of a listing are as it tells them
 pub have_files : (b : BenchValue) (before : File → File → Bool) (files : List ListedFile)
-    → files ≡ listed (in_order before b.contents.rest.folder.files) → HaveFiles files b
-have_files b before files are =
+    → files ≡ listed (in_order before b.contents.rest.folder.files)
+    → AllPairs HaveOtherSerials files → HaveFiles files b
+have_files b before files are pairs =
     let xs = b.contents.rest.folder.files in
-    subst (λ (l : List ListedFile). HaveFiles l b) (sym are)
-    (have_listed b (in_order before xs)
-    (all_ordered (λ x. has_serial x.serial xs ≡ true) before xs (there_each xs)))
+    have_told b before files are pairs
+    (all_ordered (λ x. has_serial x.serial xs ≡ true) before xs (there_each xs))
 
 -- ---- the work
 
@@ -133,7 +129,7 @@ each_folder f m (x ∷ xs) =
     list_all_append is_folder_task (file_tasks f m x) (flat_map (file_tasks f m) xs)
     (found_folder f m (Some x)) (each_folder f m xs)
 
-calm_append : (xs ys : List BootTask) → IsCalm xs → IsCalm ys → IsCalm (xs ++ ys)
+pub calm_append : (xs ys : List BootTask) → IsCalm xs → IsCalm ys → IsCalm (xs ++ ys)
 calm_append [] ys a b = b
 calm_append (Commits (Settles kind end) ∷ xs) ys a b = absurd a
 calm_append (Commits (Unstages pair) ∷ xs) ys a b = tt
@@ -142,7 +138,7 @@ calm_append (Commits Prunes ∷ xs) ys a b = tt
 calm_append (Commits Clears ∷ xs) ys a b = tt
 calm_append (Removes serial ∷ xs) ys a b = tt
 
-units_calm : (us : List BootUnit) → IsCalm (unit_tasks us)
+pub units_calm : (us : List BootUnit) → IsCalm (unit_tasks us)
 units_calm [] = tt
 units_calm (u ∷ us) = tt
 

@@ -37,6 +37,7 @@ regions_then a b c p q = record {
   told = q.told ∙ p.told;
   count = q.count ∙ p.count;
   long = λ k. q.long k ∙ p.long k;
+  orders = q.orders ∙ p.orders;
 }
 
 pub regions_same : (a b : BenchValue) → ChangesCounts a b → KeepsRegions a b
@@ -44,6 +45,7 @@ regions_same a b same = record {
   told = ap (λ (s : Contents). s.told) same.contents;
   count = ap (λ (s : Contents). s.regions) same.contents;
   long = λ k. ap (λ (s : Contents). length (s.bytes k)) same.contents;
+  orders = same.orders;
 }
 
 -- where only counts changed, an open store is open

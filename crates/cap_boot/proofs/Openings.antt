@@ -34,6 +34,7 @@ module _ (old new : BenchValue) (syncs : SyncsDevices old new) where
     told = told_same;
     count = syncs.regions;
     long = λ k. ap (λ (l : List ℕ). length l) (syncs.each k).bytes;
+    orders = syncs.orders;
   }
 
   synced_image : (k : ℕ) (bytes : List ℕ) → IsImage (region_at new.contents k) bytes

@@ -4,16 +4,13 @@ use Rattle.std.proofs.Common.{◌≡◌, ◌⊎◌, inl, inr, ℕ, suc, ◌+◌,
 use Rattle.std.proofs.Common.{not, ◌||◌, cond, true≢false, List, [], ◌∷◌, ◌++◌, filter, find, length}
 use Rattle.std.proofs.Common.{refl, sym, ap, ◌∙◌, subst, arith, Ok, Err, None, Some}
 use Rattle.std.specs.Prelude.{Option, is_some, option_map}
-use Rattle.std.specs.List.{AllByRecursion, list_any}
+use Rattle.std.specs.List.{list_any}
 use Rattle.std.proofs.lemmas.Bool.{eqb-true}
 use Rattle.std.proofs.lemmas.Bool.Decides.{nat_tests}
 use Rattle.bench_model.specs.Bench.{BenchValue}
 use Rattle.bench_model.specs.Files.{FolderValue}
-use Rattle.dev_claims.specs.Batches.{dropping, entries_of, has_serial, prune_changes}
+use Rattle.dev_claims.specs.Batches.{has_serial, prune_changes}
 use Rattle.dev_claims.specs.Batches.{progress_change}
-use Rattle.dev_claims.specs.Committing.{AnswersCommit, HasCommitted, LeavesStore, StaysUnlessStruck}
-use Rattle.dev_claims.specs.declared.fault.ClaimFault.{ClaimFault}
-use Rattle.dev_claims.specs.declared.fault.ClaimFault.TheVariants as claims
 use Rattle.dev_claims.proofs.DropLaws.{prune_holds}
 use Rattle.dev_claims.proofs.Due.{progress_fits}
 use Rattle.reference_machine.specs.Boots.{BootState, BootTask, after, is_file, next, one_step}
@@ -24,26 +21,21 @@ use Rattle.reference_machine.specs.Machine.{Machine}
 use Rattle.reference_machine.specs.Report.{ReportValue}
 use Rattle.reference_machine.specs.Spent.{spent}
 use Rattle.stored_vars.specs.Holds.{progress_of}
-use Rattle.stored_vars.specs.Stands.{Holds, ProgressFits, units_kept, units_on}
+use Rattle.stored_vars.specs.Stands.{Holds, ProgressFits}
 use Rattle.stored_vars.specs.declared.progress.ProgressEntry.{ProgressEntry}
 use Rattle.var_log.specs.Changes.{Variables}
 use Rattle.var_log.specs.Logs.{ChangesBanks}
 use Rattle.var_log.specs.declared.change.Change.{Change}
-use Rattle.var_log.specs.declared.fault.LogFault.TheVariants.{Flash, NoBank, Full, Stale}
-use Rattle.var_log.specs.declared.fault.LogFault.TheVariants as log
-use Rattle.var_store.specs.Stores.{HeldStore, Stands, variables_of}
-use Rattle.var_store.specs.Writes.{MayHaveWritten}
-use Rattle.var_store.specs.declared.fault.StoreFault.TheVariants.{Log, BadName, TooBig, Memory}
+use Rattle.var_store.specs.Stores.{HeldStore, variables_of}
 use Rattle.cap_boot.specs.declared.fault.BootFault.{BootFault}
 use Rattle.cap_boot.specs.declared.fault.BootFault.TheVariants as boot
-use Rattle.cap_boot.specs.Commits.{DropsAs, IsStored, IsUntouched, LeavesBatch, LeavesDrop}
-use Rattle.cap_boot.specs.Commits.{fault_of_claim}
+use Rattle.cap_boot.specs.Commits.{DropsAs, IsUntouched, LeavesBatch, LeavesDrop}
 use Rattle.cap_boot.specs.Going.{Goes, IsAny, nothing}
 use Rattle.cap_boot.specs.Keeps.{KeepsFiles}
-use Rattle.cap_boot.specs.Situations.{IsAt, IsReady, IsStopped, IsUnderWay, Situation}
+use Rattle.cap_boot.specs.Situations.{IsAt, IsReady, Situation}
 use Rattle.cap_boot.specs.Stands.{Setting}
 use Rattle.cap_boot.specs.Tasks.{ListsFiles}
-use Rattle.cap_boot.proofs.Batches.{TakesNext, batch_fails, batch_goes, ready_written, taken_by}
+use Rattle.cap_boot.proofs.Batches.{TakesNext, batch_fails, batch_goes, taken_by}
 use Rattle.cap_boot.proofs.Batches.{untouched_stands, untouched_told}
 use Rattle.cap_boot.proofs.Onward.{reached_now}
 use Rattle.cap_boot.proofs.Singles.{at_report, board_now, outside_of}
@@ -301,7 +293,8 @@ drop_goes x s t before now r q serials u true lists d told same f ready =
     batch_goes x IsAny KeepsFiles prune_tasks (at_report s before r) (at_report t now q)
     (prune_changes (variables_of s) serials) one_step u
     (prunes_next x (at_report s before r) serials lists d.0)
-    (pruning_keeps x (at_report s before r) serials lists d.0) (λ v p. refl) (told refl) f d.1 ready
+    (λ b rest way at left.
+    pruning_keeps x (at_report s before r) serials lists d.0 b rest at left) (λ v p. refl) (told refl) f d.1 ready
 drop_goes {T} x s t before now r q serials u false lists d told same f ready =
     let y = at_report s before r in
     subst (λ (z : Situation). Goes {T = T} x IsAny KeepsFiles prune_tasks nothing y (Ok u) z)

@@ -25,7 +25,7 @@ unit_steps f b u rest Claim = refl
 unit_steps f b u rest (Close end) = refl
 
 -- a step is counted, where there is one
-counted : (f : Formats) (b : BootState) (left : List BootTask)
+pub counted : (f : Formats) (b : BootState) (left : List BootTask)
     → (after f b left ≡ b) ⊎ ((after f b left).report.steps ≡ b.report.steps + 1)
 counted f b [] = inl refl
 counted f b (Commits (Settles kind end) ∷ rest) = inr refl
@@ -82,7 +82,7 @@ stop_agrees f m h j b is r cause new s =
     agrees_there f m h r cause new (subst (λ (c : BootState). StopsAt f m c r cause new) there s)
 
 -- where nothing is left, further steps do nothing
-rests : (f : Formats) (k : ℕ) (b : BootState) → b.left ≡ [] → after_steps f k b ≡ b
+pub rests : (f : Formats) (k : ℕ) (b : BootState) → b.left ≡ [] → after_steps f k b ≡ b
 rests f zero b none = refl
 rests f (suc k) b none = ap (next f) (rests f k b none) ∙ ap (after f b) none
 

@@ -1,12 +1,13 @@
 -- The single steps: the batch that each takes, and a removal of a file.
-use Rattle.std.proofs.Common.{◌≡◌, ◌⊎◌, inl, inr, ℕ, ◌+◌, ◌<◌, ◌^◌, ◌==◌, Bool, true, false, not, List}
+use Rattle.std.proofs.Common.{◌≡◌, inl, inr, ℕ, ◌+◌, ◌<◌, ◌^◌, ◌==◌, Bool, true, false, not, List}
 use Rattle.std.proofs.Common.{[], ◌∷◌, ◌++◌, filter, find, cond, length, refl, sym, ◌∙◌, ap, subst}
-use Rattle.std.proofs.Common.{IsTrue, Ok, Err, None, Some, ◌≢◌}
+use Rattle.std.proofs.Common.{IsTrue, Ok, Err, Some, ◌≢◌}
 use Rattle.std.specs.List.{list_all}
 use Rattle.std.proofs.lemmas.Bool.{eqb-true}
 use Rattle.std.specs.Prelude.{Option}
-use Rattle.bench_model.specs.Bench.{AreImages, BenchValue, Contents, RemoveStops, Removes}
-use Rattle.bench_model.specs.Bench.{after_remove, with_folder}
+use Rattle.bench_model.specs.Bench.{BenchValue, ChangesContents, Contents, RemoveStops}
+use Rattle.bench_model.specs.Bench.{Removes}
+use Rattle.bench_model.specs.Bench.{after_remove}
 use Rattle.bench_model.specs.Boards.{IsBoard}
 use Rattle.bench_model.specs.Files.{File, FolderValue, without_serial}
 use Rattle.dev_claims.specs.Batches.{clear_changes, unstage_changes}
@@ -19,9 +20,9 @@ use Rattle.reference_machine.specs.Machine.{Machine}
 use Rattle.reference_machine.specs.Report.{ReportValue}
 use Rattle.reference_machine.specs.Stops.{is_folder_task, is_in_folder, is_removal}
 use Rattle.reference_machine.specs.declared.snapshot.StagedPair.{StagedPair}
-use Rattle.stored_vars.specs.Stands.{Holds, Stores}
+use Rattle.stored_vars.specs.Stands.{Holds}
 use Rattle.var_log.specs.Changes.{Variables}
-use Rattle.var_store.specs.Stores.{HeldStore, store_value, variables_of}
+use Rattle.var_store.specs.Stores.{HeldStore, variables_of}
 use Rattle.cap_boot.specs.declared.fault.BootFault.TheVariants.{Volume}
 use Rattle.cap_boot.specs.Going.{Goes, IsFolder, nothing}
 use Rattle.cap_boot.specs.Keeps.{KeepsFolder, KeepsOthers}
@@ -179,16 +180,19 @@ ready_removed store a c serial is r = record {
 }
 
 -- the regions stay
-pub regions_removed : (a c : BenchValue) (serial : ℕ) → RemoveStops serial a c → KeepsRegions a c
-regions_removed a c serial (inl same) = record {
+pub regions_removed : (a c : BenchValue) (serial : ℕ) → RemoveStops serial a c
+    → ChangesContents a c → KeepsRegions a c
+regions_removed a c serial (inl same) frame = record {
   told = ap (λ (s : Contents). s.told) same;
   count = ap (λ (s : Contents). s.regions) same;
   long = λ k. ap (λ (s : Contents). length (s.bytes k)) same;
+  orders = frame.orders;
 }
-regions_removed a c serial (inr is) = record {
+regions_removed a c serial (inr is) frame = record {
   told = ap (λ (s : Contents). s.told) is;
   count = ap (λ (s : Contents). s.regions) is;
   long = λ k. ap (λ (s : Contents). length (s.bytes k)) is;
+  orders = frame.orders;
 }
 
 -- the situation of a store, a bench and the value of a report

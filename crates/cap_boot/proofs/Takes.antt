@@ -1,25 +1,27 @@
 -- Files that are taken one after another.
-use Rattle.std.proofs.Common.{◌≡◌, ◌≢◌, ℕ, zero, suc, ◌+◌, ◌-◌, ◌<◌, ◌==◌, ◌||◌, List, [], ◌∷◌}
-use Rattle.std.proofs.Common.{filter, find, drop, get_or, length, refl, sym, ◌∙◌, ap, subst, Bool}
+use Rattle.std.proofs.Common.{◌≡◌, ◌≢◌, ℕ, zero, suc, ◌+◌, ◌-◌, ◌<◌, ◌==◌, List, [], ◌∷◌}
+use Rattle.std.proofs.Common.{find, drop, get_or, length, refl, sym, ◌∙◌, ap, subst}
 use Rattle.std.proofs.Common.{true}
-use Rattle.std.proofs.Common.{false, cond, not, arith, Result, add-one}
-use Rattle.std.proofs.Common.{drop-cons}
-use Rattle.std.specs.List.{AllByRecursion, AllPairs, list_any}
+use Rattle.std.proofs.Common.{arith, Result, add-one}
+use Rattle.std.proofs.Common.{Some, drop-cons}
+use Rattle.std.specs.Prelude.{option_map}
+use Rattle.std.specs.List.{AllByRecursion, AllPairs}
 use Rattle.std.proofs.lemmas.List.{get_or-drop, length-drop}
 use Rattle.bench_model.specs.Bench.{BenchValue, HasFile}
 use Rattle.bench_model.specs.Files.{File, FolderValue, HaveOtherSerials, ListedFile, has_serial}
 use Rattle.bench_model.specs.Files.{without_serial}
 use Rattle.reference_machine.specs.Boots.{BootState, after_steps}
 use Rattle.reference_machine.specs.Machine.{Machine}
-use Rattle.reference_machine.proofs.Filing.{same_of}
 use Rattle.cap_boot.specs.declared.fault.BootFault.{BootFault}
-use Rattle.cap_boot.specs.Going.{Goes, IsFolder, nothing}
+use Rattle.cap_boot.specs.Going.{Goes, IsFolder, IsThenRemoved, nothing}
 use Rattle.cap_boot.specs.Keeps.{KeepsFileThere, KeepsOthers}
 use Rattle.cap_boot.specs.Situations.{IsAt, Situation}
 use Rattle.cap_boot.specs.Stands.{Setting}
-use Rattle.cap_boot.specs.Tasks.{HaveFiles, file_unit_tasks, files_tasks, removal_tasks}
+use Rattle.cap_boot.specs.Tasks.{HaveFiles, entry_of, file_unit_tasks, files_tasks}
+use Rattle.cap_boot.specs.Tasks.{removal_tasks}
 use Rattle.cap_boot.specs.Tasks.{serial_tasks}
 use Rattle.cap_boot.proofs.Files.{all_of, file_split, files_same}
+use Rattle.cap_boot.proofs.Listings.{told_later}
 use Rattle.cap_boot.proofs.Onward.{steps_ground}
 use Rattle.cap_boot.proofs.Works.{with_behind, works_as}
 
@@ -32,11 +34,11 @@ file_there x b y s at there =
 -- the units of a file, with its removal behind them
 pub units_first : {T : Type 0} (x : Setting) (s : ℕ) {y z : Situation} {r : Result T BootFault}
     → HasFile s y.bench
-    → Goes x IsFolder (KeepsFileThere s) (file_unit_tasks x.formats s) nothing y r z
+    → Goes x IsThenRemoved (KeepsFileThere s) (file_unit_tasks x.formats s) nothing y r z
     → Goes x IsFolder (KeepsFileThere s) (serial_tasks x.formats s) (removal_tasks s) y r z
 units_first x s {y = y} there d =
     works_as x (λ b way at. file_split x.formats s b.machine (file_there x b y s at there))
-    (with_behind x (removal_tasks s) (removal_tasks s) (λ start m rest may. may)
+    (with_behind x (removal_tasks s) (removal_tasks s) (λ start m rest may. (may, refl))
     (λ b k way kept. refl) d)
 
 pub taken_others : (s : ℕ) (a b c : Machine) → KeepsFileThere s a b → KeepsOthers s b c
@@ -79,44 +81,19 @@ later_others files i d pairs lt =
     any_default (x ∷ xs) zero e d lt = refl
     any_default (x ∷ xs) (suc n) e d lt = any_default xs n e d (omega arith)
 
--- a file of another serial is there once one was taken out
-kept_step : (s t : ℕ) (x : File) (rest : List File) (kept here : Bool) → (x.serial == s) ≡ kept
-    → (x.serial == t) ≡ here → t ≢ s → (any : Bool) → (here || any) ≡ true
-    → (any ≡ true → list_any (λ y. y.serial == t) rest ≡ true)
-    → list_any (λ y. y.serial == t) (cond (not kept) (x ∷ rest) rest) ≡ true
-kept_step s t x rest true true k h other any is next =
-    absurd (other (sym (same_of x.serial t h) ∙ same_of x.serial s k))
-kept_step s t x rest true false k h other any is next = next is
-kept_step s t x rest false true k h other any is next =
-    ap (λ (b : Bool). b || list_any (λ y. y.serial == t) rest) h
-kept_step s t x rest false false k h other any is next =
-    ap (λ (b : Bool). b || list_any (λ y. y.serial == t) rest) h ∙ next is
-
-still_there : (s t : ℕ) (xs : List File) → t ≢ s → has_serial t xs ≡ true
-    → has_serial t (filter (λ x. not (x.serial == s)) xs) ≡ true
-still_there s t [] other h = h
-still_there s t (x ∷ xs) other h =
-    kept_step s t x (filter (λ y. not (y.serial == s)) xs) (x.serial == s) (x.serial == t) refl refl
-    other (has_serial t xs) h (still_there s t xs other)
-
+-- the later files stay as a listing tells them once one was taken out
 pub have_later : (s : ℕ) (files : List ListedFile) (old new : BenchValue)
     → new.contents.rest.folder ≡ without_serial old.contents.rest.folder s
     → AllByRecursion (IsOther s) files → HaveFiles files old → HaveFiles files new
 have_later s [] old new is other have = tt
 have_later s (a ∷ rest) old new is other have = (
-  subst (λ (f : FolderValue). has_serial a.serial f.files ≡ true) (sym is)
-      (still_there s a.serial old.contents.rest.folder.files other.0 have.0),
+  subst (λ (f : FolderValue).
+      option_map entry_of (find (λ x. x.serial == a.serial) f.files) ≡ Some a) (sym is)
+      (told_later s a old.contents.rest.folder.files other.0 have.0),
   have_later s rest old new is other.1 have.1,
 )
 
--- the file at the head of what is left
-pub have_head : (files : List ListedFile) (i : ℕ) (d : ListedFile) (b : BenchValue)
-    → i < length files → HaveFiles (drop i files) b → HasFile (get_or files i d).serial b
-have_head files i d b lt have =
-    let cut : drop i files ≡ get_or files i d ∷ drop (i + 1) files =
-    rw (add-one, drop-cons files i d) in
-    (subst (λ (xs : List ListedFile). HaveFiles xs b) cut have).0
-
+-- what is left behind a file
 pub have_tail : (files : List ListedFile) (i : ℕ) (d : ListedFile) (b : BenchValue)
     → i < length files → HaveFiles (drop i files) b → HaveFiles (drop (i + 1) files) b
 have_tail files i d b lt have =

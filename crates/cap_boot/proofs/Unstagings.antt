@@ -1,18 +1,16 @@
 -- The batch that takes a staged delivery out: it deletes each variable once, and its record is small.
-use Rattle.std.proofs.Common.{◌≡◌, ℕ, zero, suc, ◌+◌, ◌*◌, ◌<◌, ◌≤◌, Bool, true, false, cond, ◌&&◌, List}
-use Rattle.std.proofs.Common.{[], ◌∷◌, ◌++◌, filter, map, length, refl, sym, ap, ◌∙◌, subst, arith}
+use Rattle.std.proofs.Common.{◌≡◌, ℕ, zero, suc, ◌+◌, ◌*◌, ◌<◌, ◌≤◌, Bool, true, false, cond, List}
+use Rattle.std.proofs.Common.{[], ◌∷◌, ◌++◌, filter, map, length, refl, ap, ◌∙◌, subst, arith}
 use Rattle.std.proofs.Common.{length-append, append-nil}
 use Rattle.std.specs.List.{AllByRecursion, flat_map, range_with_len}
 use Rattle.std.specs.Str.{bytes_eq}
 use Rattle.std.proofs.lemmas.Bool.{lt-ltb}
 use Rattle.std.proofs.lemmas.List.{length-map, map-append}
 use Rattle.std.proofs.lemmas.List.Elements.{filter-append}
-use Rattle.std.proofs.lemmas.List.FromFn.{length-range_with_len}
 use Rattle.std.proofs.lemmas.Slice.Eq.{bytes_eq-Decides}
 use Rattle.dev_claims.specs.Batches.{keeps_serial, unstage_changes}
 use Rattle.stored_vars.specs.Edits.{delete_of}
 use Rattle.stored_vars.specs.Variables.{guid_of, name_of}
-use Rattle.stored_vars.specs.declared.variable.StoredVar.{StoredVar}
 use Rattle.stored_vars.specs.declared.variable.StoredVar.TheVariants.{Stage}
 use Rattle.stored_vars.proofs.VariableLaws.{names_apart}
 use Rattle.var_log.specs.Changes.{Variables, has_key}

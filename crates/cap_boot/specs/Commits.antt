@@ -25,7 +25,7 @@ pub record IsInDoubt (changes : List Change) (old new : HeldStore)
 
 -- nothing was written
 pub record IsUntouched (old new : HeldStore) (before now : BenchValue) : Type 0 where
-  pub bench : now ≡ before
+  pub bench : now.contents ≡ before.contents
   pub log : new.log ≡ old.log
 
 -- what is left where a batch was not written
@@ -54,3 +54,10 @@ fault_of_claim (claims.Store fault) = fault_of fault
 fault_of_claim claims.Flash = boot.Memory
 fault_of_claim (claims.Spent progress) = boot.Memory
 fault_of_claim claims.Memory = boot.Memory
+
+-- a fault of a settlement as one of a boot
+abbrev pub fault_of_settlement : ClaimFault → BootFault
+fault_of_settlement (claims.Store fault) = fault_of fault
+fault_of_settlement claims.Flash = boot.Flash
+fault_of_settlement (claims.Spent progress) = boot.Memory
+fault_of_settlement claims.Memory = boot.Memory

@@ -3,7 +3,7 @@ use Rattle.std.specs.Prelude.{◌≡◌, ℕ, List, [], ◌++◌, IsTrue, Result
 use Rattle.std.specs.List.{list_all}
 use Rattle.reference_machine.specs.Boots.{BootState, BootTask, after_steps}
 use Rattle.reference_machine.specs.Machine.{Machine}
-use Rattle.reference_machine.specs.Stops.{is_folder_task}
+use Rattle.reference_machine.specs.Stops.{is_folder_task, is_removal}
 use Rattle.cap_boot.specs.declared.fault.BootFault.{BootFault}
 use Rattle.cap_boot.specs.Situations.{IsAt, IsStopped, IsUnderWay, Situation}
 use Rattle.cap_boot.specs.Stands.{Setting}
@@ -23,6 +23,10 @@ IsAny start rest = Unit {0}
 -- work of the folder alone may come behind, and it was asked for
 abbrev pub IsFolder : Machine → List BootTask → Type 0
 IsFolder start rest = IsTrue start.is_signalled × IsTrue (list_all is_folder_task rest)
+
+-- the removal of a file comes behind, and then work of the folder alone may
+abbrev pub IsThenRemoved : Machine → List BootTask → Type 0
+IsThenRemoved start rest = IsFolder start rest × IsTrue (is_removal rest)
 
 -- nothing comes behind
 abbrev pub IsNone : Machine → List BootTask → Type 0

@@ -10,3 +10,5 @@ pub mod Booting
 pub mod Begun
 pub mod Given
 pub mod Faults
+pub mod Units
+pub mod Closing

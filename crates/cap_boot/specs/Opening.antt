@@ -15,6 +15,7 @@ pub record SyncsDevices (old new : BenchValue) : Type 0 where
   pub regions : new.contents.regions ≡ old.contents.regions
   pub each : (k : ℕ) → Syncs (region_at old.contents k) (region_at new.contents k)
   pub rest : new.contents.rest ≡ old.contents.rest
+  pub orders : new.orders ≡ old.orders
 
 -- the regions of the first devices are not dirty
 abbrev pub AreSynced : ℕ → BenchValue → Type 0

@@ -119,8 +119,9 @@ pub record HasRegions (size_of : ℕ → ℕ) (board : BoardValue) (b : BenchVal
   pub devices : (d : ℕ) → d < length board.devices
       → length (b.contents.bytes (region_of d)) ≡ size_of (capacity_of board d)
 
--- the regions and their lengths stay
+-- the regions and their lengths stay, and no order was given
 pub record KeepsRegions (old new : BenchValue) : Type 0 where
   pub told : new.contents.told ≡ old.contents.told
   pub count : new.contents.regions ≡ old.contents.regions
   pub long : (k : ℕ) → length (new.contents.bytes k) ≡ length (old.contents.bytes k)
+  pub orders : new.orders ≡ old.orders

@@ -1,9 +1,9 @@
 -- The work of a boot as its calls find it: by the slots, the staged deliveries and the files.
 use Rattle.std.specs.Prelude.{◌≡◌, ℕ, Bool, ◌==◌, ◌&&◌, List, [], ◌∷◌, ◌++◌, map, flat_map, find}
-use Rattle.std.specs.Prelude.{drop}
+use Rattle.std.specs.Prelude.{drop, length, option_map}
 use Rattle.std.specs.Prelude.{Option, None, Some, if◌then◌else◌}
 use Rattle.std.specs.List.{AllByRecursion, list_any}
-use Rattle.bench_model.specs.Bench.{BenchValue, Contents, HasFile, region_of}
+use Rattle.bench_model.specs.Bench.{BenchValue, Contents, region_of}
 use Rattle.bench_model.specs.Files.{File, ListedFile}
 use Rattle.cu_base.specs.declared.ticket.Ticket.{Ticket}
 use Rattle.reference_machine.specs.Boots.{BootTask, file_delivery, file_tasks, folder_tasks}
@@ -127,6 +127,15 @@ abbrev pub ListsFiles : List ℕ → BenchValue → Type 0
 ListsFiles serials b =
     (s : ℕ) → list_any (λ t. t == s) serials ≡ is_file b.contents.rest.folder.files s
 
--- the files of a listing are in the folder
+-- what a listing tells of a file
+abbrev pub entry_of : File → ListedFile
+entry_of x = record { name = x.name; serial = x.serial; size = length x.bytes }
+
+-- the file of its serial is in the folder and is as a listing tells it
+abbrev pub TellsFile : ListedFile → BenchValue → Type 0
+TellsFile a b =
+    option_map entry_of (find (λ x. x.serial == a.serial) b.contents.rest.folder.files) ≡ Some a
+
+-- the folder's files are as a listing tells them
 abbrev pub HaveFiles : List ListedFile → BenchValue → Type 0
-HaveFiles files b = AllByRecursion (λ a. HasFile a.serial b) files
+HaveFiles files b = AllByRecursion (λ a. TellsFile a b) files

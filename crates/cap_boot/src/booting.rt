@@ -8,7 +8,7 @@ ghost use Rattle.cap_boot.specs.Given.{setting};
 ghost use Rattle.cap_boot.specs.Going.{Goes, IsNone, nothing};
 ghost use Rattle.cap_boot.specs.Keeps.{KeepsNothing};
 ghost use Rattle.cap_boot.specs.Situations.{IsOpen, IsReady, situation};
-ghost use Rattle.cap_boot.specs.Stands.{HasRegions};
+ghost use Rattle.cap_boot.specs.Stands.{HasRegions, KeepsRegions};
 ghost use Rattle.cap_boot.specs.Tasks.{all_tasks};
 ghost use Rattle.reference_machine.specs.Report.{nothing_done, report_value};
 ghost use Rattle.stored_vars.specs.Holds.{is_asked};
@@ -45,6 +45,7 @@ pub fn boot<W: Platform, S: SlotForm>(
     requires empty { report_value report.old ≡ nothing_done }
     ensures images { Boots (setting board.now now.now S.slot_of) (W.state bench.old) result
         (report_value report.new) (W.state bench.new) }
+    ensures frame { KeepsRegions (W.state bench.old) (W.state bench.new) }
     ensures cause { HasFlashCause (W.state bench.old) (W.state bench.new) result }
 {
     let mut store = open_store(alloc, bench)?;
@@ -71,6 +72,7 @@ fn do_all<W: Platform, S: SlotForm>(
         (all_tasks (setting board.now now.now S.slot_of) (W.state bench.old).contents) nothing
         (situation store.old (W.state bench.old) report.old) result
         (situation store.new (W.state bench.new) report.new) }
+    ensures frame { KeepsRegions (W.state bench.old) (W.state bench.new) }
     ensures cause { HasFlashCause (W.state bench.old) (W.state bench.new) result }
     ensures rule { IsBoard board.now }
 {
@@ -91,11 +93,13 @@ fn do_tasks<W: Platform, S: SlotForm>(
 ) -> Result<(), BootFault>
     requires ready { IsReady store.old (W.state bench.old) }
     requires regions { HasRegions S.size_of board.now (W.state bench.old) }
+    requires rule { IsBoard board.now }
     ensures ready { OnOk result (IsReady store.new (W.state bench.new)) }
     ensures does { Goes (setting board.now now.now S.slot_of) IsNone KeepsNothing
         (all_tasks (setting board.now now.now S.slot_of) (W.state bench.old).contents) nothing
         (situation store.old (W.state bench.old) report.old) result
         (situation store.new (W.state bench.new) report.new) }
+    ensures frame { KeepsRegions (W.state bench.old) (W.state bench.new) }
     ensures cause { HasFlashCause (W.state bench.old) (W.state bench.new) result }
 {
     heal(alloc, board, now, form, bench, store, report)?;

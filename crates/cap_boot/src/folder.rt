@@ -1,7 +1,8 @@
 //! The files of the folder.
 
 ghost use Rattle.std.specs.Prelude.{◌≡◌, AllPairs, IfErr, IfOk, OnOk, true};
-ghost use Rattle.bench_model.specs.Bench.{ChangesCounts, HasFile};
+ghost use Rattle.bench_model.specs.Boards.{IsBoard};
+ghost use Rattle.bench_model.specs.Bench.{ChangesCounts};
 ghost use Rattle.bench_model.specs.Files.{HaveOtherSerials, listed, without_serial};
 ghost use Rattle.cap_boot.specs.Faults.{HasFlashCause, IsOfListing};
 ghost use Rattle.cap_boot.specs.Given.{setting};
@@ -9,7 +10,8 @@ ghost use Rattle.cap_boot.specs.Going.{Goes, IsFolder, IsNone, nothing};
 ghost use Rattle.cap_boot.specs.Keeps.{KeepsNothing, KeepsOthers};
 ghost use Rattle.cap_boot.specs.Situations.{IsReady, situation};
 ghost use Rattle.cap_boot.specs.Stands.{HasRegions, KeepsRegions};
-ghost use Rattle.cap_boot.specs.Tasks.{HaveFiles, files_tasks, serial_tasks, serials_of};
+ghost use Rattle.cap_boot.specs.Tasks.{HaveFiles, TellsFile, files_tasks, serial_tasks};
+ghost use Rattle.cap_boot.specs.Tasks.{serials_of};
 ghost use Rattle.delivery_formats.specs.TrueFormats.{true_formats};
 ghost use Rattle.reference_machine.specs.Boots.{folder_tasks};
 ghost use Rattle.reference_machine.specs.Names.{is_taken_before};
@@ -68,7 +70,8 @@ fn take_file<W: Platform, S: SlotForm>(
 ) -> Result<(), BootFault>
     requires ready { IsReady store.old (W.state bench.old) }
     requires regions { HasRegions S.size_of board.now (W.state bench.old) }
-    requires there { HasFile file.now.serial (W.state bench.old) }
+    requires rule { IsBoard board.now }
+    requires there { TellsFile file.now (W.state bench.old) }
     ensures ready { OnOk result (IsReady store.new (W.state bench.new)) }
     ensures frame { KeepsRegions (W.state bench.old) (W.state bench.new) }
     ensures folder { OnOk result ((W.state bench.new).contents.rest.folder
@@ -97,6 +100,7 @@ fn take_files<W: Platform, S: SlotForm>(
 ) -> Result<(), BootFault>
     requires ready { IsReady store.old (W.state bench.old) }
     requires regions { HasRegions S.size_of board.now (W.state bench.old) }
+    requires rule { IsBoard board.now }
     requires apart { AllPairs HaveOtherSerials files.now }
     requires there { HaveFiles files.now (W.state bench.old) }
     ensures ready { OnOk result (IsReady store.new (W.state bench.new)) }
@@ -126,12 +130,14 @@ pub(crate) fn take_folder<W: Platform, S: SlotForm>(
 ) -> Result<(), BootFault>
     requires ready { IsReady store.old (W.state bench.old) }
     requires regions { HasRegions S.size_of board.now (W.state bench.old) }
+    requires rule { IsBoard board.now }
     requires asked { is_asked (variables_of store.old) ≡ true }
     ensures ready { OnOk result (IsReady store.new (W.state bench.new)) }
     ensures does { Goes (setting board.now now.now S.slot_of) IsNone KeepsNothing
         (folder_tasks true_formats) nothing
         (situation store.old (W.state bench.old) report.old) result
         (situation store.new (W.state bench.new) report.new) }
+    ensures frame { KeepsRegions (W.state bench.old) (W.state bench.new) }
     ensures cause { HasFlashCause (W.state bench.old) (W.state bench.new) result }
 {
     let listing = files_in_order(alloc, bench)?;

@@ -3,14 +3,21 @@
 #![tactic(auto)]
 
 mod booting;
+mod decoding;
+mod doing;
 mod fault;
+mod file_bytes;
 mod folder;
 mod laws;
 mod opening;
 mod single_steps;
 mod step_batches;
 mod to_be_built;
+mod trying;
+mod unit_list;
+mod unit_steps;
 mod units;
+mod untried;
 mod waiting;
 mod writing;
 

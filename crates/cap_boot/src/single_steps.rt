@@ -17,10 +17,10 @@ ghost use Rattle.var_store.specs.Stores.{HeldStore};
 
 use crate::BootFault;
 use crate::step_batches::{clear_batch, unstage_batch};
-use crate::to_be_built::to_be_built;
-use crate::writing::{drop_progress, write_batch};
+use crate::writing::{drop_progress, settle_in_store, write_batch};
 use bench_model::{Board, Platform};
 use cu_base::{EfiTime, Failed};
+use dev_claims::open_claim;
 use fmp_slot::SlotForm;
 use reference_machine::{Report, StagedPair};
 use std::alloc::Global;
@@ -47,7 +47,14 @@ pub(crate) fn heal<W: Platform, S: SlotForm>(
         (situation store.new (W.state bench.new) report.new) }
     ensures cause { HasFlashCause (W.state bench.old) (W.state bench.new) result }
 {
-    to_be_built()
+    if open_claim(store, board).is_none() {
+        return Ok(());
+    }
+    report.lines.reserve(1)?;
+    let line = settle_in_store(alloc, board, now, form, bench, store)?;
+    report.steps = report.steps.saturating_add(1);
+    report.lines.push(line)?;
+    Ok(())
 }
 
 /// Takes a staged delivery out.

@@ -1,6 +1,7 @@
 //! The deliveries that wait in memory.
 
 ghost use Rattle.std.specs.Prelude.{OnOk};
+ghost use Rattle.bench_model.specs.Boards.{IsBoard};
 ghost use Rattle.cap_boot.specs.Faults.{HasFlashCause};
 ghost use Rattle.cap_boot.specs.Given.{setting};
 ghost use Rattle.cap_boot.specs.Going.{Goes, IsAny, nothing};
@@ -35,6 +36,7 @@ fn take_pair<W: Platform, S: SlotForm>(
 ) -> Result<(), BootFault>
     requires ready { IsReady store.old (W.state bench.old) }
     requires regions { HasRegions S.size_of board.now (W.state bench.old) }
+    requires rule { IsBoard board.now }
     ensures ready { OnOk result (IsReady store.new (W.state bench.new)) }
     ensures frame { KeepsRegions (W.state bench.old) (W.state bench.new) }
     ensures does { Goes (setting board.now now.now S.slot_of) IsAny KeepsFolder
@@ -61,6 +63,7 @@ fn take_pairs<W: Platform, S: SlotForm>(
 ) -> Result<(), BootFault>
     requires ready { IsReady store.old (W.state bench.old) }
     requires regions { HasRegions S.size_of board.now (W.state bench.old) }
+    requires rule { IsBoard board.now }
     ensures ready { OnOk result (IsReady store.new (W.state bench.new)) }
     ensures frame { KeepsRegions (W.state bench.old) (W.state bench.new) }
     ensures does { Goes (setting board.now now.now S.slot_of) IsAny KeepsFolder
@@ -87,6 +90,7 @@ pub(crate) fn take_staged<W: Platform, S: SlotForm>(
 ) -> Result<(), BootFault>
     requires ready { IsReady store.old (W.state bench.old) }
     requires regions { HasRegions S.size_of board.now (W.state bench.old) }
+    requires rule { IsBoard board.now }
     ensures ready { OnOk result (IsReady store.new (W.state bench.new)) }
     ensures frame { KeepsRegions (W.state bench.old) (W.state bench.new) }
     ensures does { Goes (setting board.now now.now S.slot_of) IsAny KeepsFolder

@@ -86,7 +86,8 @@ pub record Closes (variables : Variables) (m : Machine) (front : List Element) (
   pub low : e.key.ticket.serial < 2 ^ 64
   pub version : e.version < 2 ^ 32
   pub floor : e.floor < 2 ^ 32
-  pub state : IsState (state_of m.board front e.key.device)
+  pub state : e.key.device < length m.board.devices
+      → IsState (state_of m.board front e.key.device)
 
 -- ---- small facts
 
@@ -228,7 +229,7 @@ module _ (variables : Variables) (m : Machine) (front : List Element) (e : Eleme
       c.devices e.key.device ends.0 in
       let wide : IsState r.state =
       state_wide e k (device_of m.board variables e.key.device)
-      (subst IsState (sym before) c.state) c.version c.floor ends.1 in
+      (subst IsState (sym before) (c.state ends.0)) c.version c.floor ends.1 in
       let parts = record_set m.board new d r (record { state = wide; claim = tt }) is in (
         parts.0 ∙ ap (state_after e k) (before ∙ ap (state_of m.board front) same)
             ∙ sym (state_on m.board front e k at closed_at d on),

@@ -1,5 +1,5 @@
 -- What is due in a reached machine is next for the batches of a boot.
-use Rattle.std.proofs.Common.{◌<◌, ◌≤◌, ◌^◌, inl, inr, arith, subst, sym}
+use Rattle.std.proofs.Common.{◌<◌, ◌≤◌, ◌^◌, inl, inr, arith, length, subst, sym}
 use Rattle.bench_model.specs.Boards.{BoardValue, IsBoard}
 use Rattle.dev_claims.specs.Next.{IsNext}
 use Rattle.dev_claims.proofs.Serials.{serials_low}
@@ -32,7 +32,8 @@ low_serial m key file staged (inr g) = omega (arith, g.1)
 pub due_is_next : (f : Formats) (board : BoardValue) (m : Machine) (e : Element) → KeepsLimits f
     → IsBoard board → IsReached f board m → IsDue m e.key
     → e.version < 2 ^ 32 → e.floor < 2 ^ 32
-    → IsState (state_of m.board m.list e.key.device) → IsNext m e
+    → (e.key.device < length m.board.devices → IsState (state_of m.board m.list e.key.device))
+    → IsNext m e
 due_is_next f board m e limits is r due version floor state = record {
   board = subst IsBoard (sym (same_board f board m r)) is;
   open_last = open_last f board m r;

@@ -7,10 +7,16 @@ pub mod Entered
 pub mod Found
 pub mod Fresh
 pub mod OneMore
+pub mod OpenClaims
 pub mod Places
 pub mod Pushed
+pub mod Readied
 pub mod Serials
+pub mod Settled
+pub mod SettledAlike
+pub mod SettledLater
 pub mod Sized
 pub mod Told
 pub mod UnitLaws
 pub mod Unstaged
+pub mod Wide

@@ -94,7 +94,7 @@ state_same i j f g a b p q r =
 -- ---- the image of a device by what was left on it
 
 module _ (board : BoardValue) (list : List Element) (e : Element) (d : ℕ) where
-  image_beside : is_on d e ≡ false → image_of board (list ++ e ∷ []) d ≡ image_of board list d
+  pub image_beside : is_on d e ≡ false → image_of board (list ++ e ∷ []) d ≡ image_of board list d
   image_beside off =
       ap (λ (l : List Element). unwrap_or (last_or None (filter_map image_left l))
       (option_map factory_image (slice_get board.devices d))) (filter_front (is_on d) list e off)
@@ -107,7 +107,7 @@ module _ (board : BoardValue) (list : List Element) (e : Element) (d : ℕ) wher
       ∙ filter_map-append image_left (filter (is_on d) list) (e ∷ [])
 
   -- it is as it was where the element left it so
-  image_stays : image_left e ≡ None → image_of board (list ++ e ∷ []) d ≡ image_of board list d
+  pub image_stays : image_left e ≡ None → image_of board (list ++ e ∷ []) d ≡ image_of board list d
   image_stays none = by_device (is_on d e) refl
     where
       by_device : (b : Bool) → is_on d e ≡ b
@@ -120,7 +120,7 @@ module _ (board : BoardValue) (list : List Element) (e : Element) (d : ℕ) wher
           ∙ append-nil (filter_map image_left (filter (is_on d) list)))
 
   -- and is what the element left
-  image_set : is_on d e ≡ true → (i : Option Image) → image_left e ≡ Some i
+  pub image_set : is_on d e ≡ true → (i : Option Image) → image_left e ≡ Some i
       → image_of board (list ++ e ∷ []) d ≡ i
   image_set on i some =
       ap (λ (l : List (Option Image)). unwrap_or (last_or None l)
@@ -144,7 +144,7 @@ module _ (list : List Element) (e : Element) (open_is : e.standing ≡ Open) whe
   pub closed_open : filter is_closed (list ++ e ∷ []) ≡ filter is_closed list
   closed_open = filter_front is_closed list e no_closed
 
-  image_open : (board : BoardValue) (d : ℕ)
+  pub image_open : (board : BoardValue) (d : ℕ)
       → image_of board (list ++ e ∷ []) d ≡ image_of board list d
   image_open board d = image_stays board list e d none_left
 

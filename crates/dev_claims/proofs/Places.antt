@@ -1,16 +1,16 @@
 -- Changes of a batch that go from place to place are of different variables.
 use Rattle.std.proofs.Common.{◌≡◌, ℕ, ◌<◌, ◌≤◌, ◌==◌, Bool, true, false, cond, length, ◌||◌, List}
 use Rattle.std.proofs.Common.{[], ◌∷◌, ◌++◌, refl}
-use Rattle.std.proofs.Common.{sym, ap, ◌∙◌, subst, arith, Option, Some}
+use Rattle.std.proofs.Common.{sym, ap, ◌∙◌, subst, arith, Option, None, Some}
 use Rattle.std.specs.Str.{bytes_eq}
 use Rattle.std.proofs.lemmas.Bool.{and_parts, false_from_ne_true}
 use Rattle.std.proofs.lemmas.Slice.Eq.{bytes_eq-Decides}
 use Rattle.bench_model.specs.declared.limits.TheConstants.{MAX_DEVICES}
 use Rattle.dev_claims.specs.Batches.{entries_of, progress_change, prune_changes}
-use Rattle.dev_claims.specs.ClosedBy.{StartsNothing}
+use Rattle.dev_claims.specs.ClosedBy.{IsLine, IsOnDevice, MayClose, StartsNothing}
 use Rattle.dev_claims.specs.Places.{AreBefore, IsBefore, place_of}
 use Rattle.reference_machine.specs.declared.unit.End.{End}
-use Rattle.reference_machine.specs.declared.unit.End.TheVariants.{Refused}
+use Rattle.reference_machine.specs.declared.unit.End.TheVariants.{Refused, Sealed, Kept, Lost}
 use Rattle.reference_machine.specs.declared.unit.UnitLine.{UnitLine}
 use Rattle.reference_machine.proofs.Apart.{all_imply, all_more}
 use Rattle.stored_vars.specs.Edits.{set_of}
@@ -76,10 +76,25 @@ one_more place later v bytes c batch new made e is up before all =
       before = before;
     }))
 
--- the device of a refusal
-pub refused_device : (line : UnitLine) (end : Option End) (status : ℕ)
-    → StartsNothing line end → end ≡ Some (Refused status) → line.key.device < MAX_DEVICES
-refused_device line end status may e = subst (StartsNothing line) e may
+-- the device of an end
+pub ended_device : (line : UnitLine) (end : Option End) (of : End) → IsOnDevice line end
+    → end ≡ Some of → line.key.device < MAX_DEVICES
+ended_device line end of may e = subst (IsOnDevice line) e may
+
+-- a line of a unit that starts no SetImage is one that a batch may be made of
+pub may_close : (line : UnitLine) → MayClose line → IsLine line
+may_close line may = record {
+  device = by_end line.end may.starts_nothing;
+  status = may.status;
+  name = may.name;
+}
+  where
+    by_end : (end : Option End) → StartsNothing line end → IsOnDevice line end
+    by_end None h = tt
+    by_end (Some (Refused status)) h = h
+    by_end (Some Sealed) h = absurd h
+    by_end (Some Kept) h = absurd h
+    by_end (Some Lost) h = absurd h
 
 -- the batch that drops progress is of one variable
 pub prune_places : (variables : Variables) (serials : List ℕ)

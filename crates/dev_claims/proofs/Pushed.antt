@@ -16,9 +16,9 @@ use Rattle.bench_model.specs.Boards.{BoardValue}
 use Rattle.cu_base.specs.declared.device_state.DevState.{DevState}
 use Rattle.cu_base.specs.declared.status.EfiStatus.{EfiStatus}
 use Rattle.cu_base.specs.declared.time.EfiTime.{EfiTime}
-use Rattle.dev_claims.specs.ClosedBy.{element_told}
+use Rattle.dev_claims.specs.ClosedBy.{element_with}
 use Rattle.dev_claims.specs.Units.{close_changes, device_changes, greatest_changes, next_result}
-use Rattle.dev_claims.specs.Units.{progress_changes, result_changes, with_units}
+use Rattle.dev_claims.specs.Units.{progress_changes, result_changes, state_with, with_units}
 use Rattle.reference_machine.specs.Spent.{Element, end_of}
 use Rattle.reference_machine.specs.declared.snapshot.CapsuleResult.{CapsuleResult}
 use Rattle.stored_vars.specs.Last.{last_bytes}
@@ -26,7 +26,6 @@ use Rattle.stored_vars.specs.Progress.{progress_bytes}
 use Rattle.dev_claims.specs.declared.closing.UnitIds.{UnitIds}
 use Rattle.reference_machine.specs.Results.{fmp_part, result_at, status_with}
 use Rattle.reference_machine.specs.declared.unit.End.{End}
-use Rattle.reference_machine.specs.declared.unit.End.TheVariants.{Refused}
 use Rattle.reference_machine.specs.declared.unit.UnitLine.{UnitLine}
 use Rattle.report_tables.specs.Results.{result_bytes}
 use Rattle.report_tables.specs.declared.result.FmpResult.{FmpResult}
@@ -38,35 +37,31 @@ use Rattle.stored_vars.specs.declared.variable.StoredVar.TheVariants.{Device, Ou
 use Rattle.var_log.specs.Changes.{Variables}
 use Rattle.var_log.specs.declared.change.Change.{Change}
 
--- the record of a device on which an image of a version was refused
-abbrev pub refused_bytes : DevState → ℕ → ℕ → List ℕ
-refused_bytes old version status = record_bytes (record {
-  state = record {
-    version = old.version;
-    floor = old.floor;
-    last_version = version;
-    last_status = status;
-  };
+-- the record of a device on which an image of this version and floor ended
+abbrev pub ended_bytes : DevState → ℕ → ℕ → End → List ℕ
+ended_bytes old version floor end = record_bytes (record {
+  state = state_with version floor end old;
   claim = None;
 })
 
--- a batch with one more set of it has the record of a refused unit's device
-pub device_pushed : (board : BoardValue) (variables : Variables) (line : UnitLine)
-    (end : Option End) (status : ℕ) (old : DevState) (value : List ℕ) (c : Change)
+-- a batch with one more set of it has the record of the device of a unit that ended
+pub device_pushed : (board : BoardValue) (variables : Variables) (line : UnitLine) (floor : ℕ)
+    (end : Option End) (of : End) (old : DevState) (value : List ℕ) (c : Change)
     (batch new : List Change) → new ≡ batch ++ c ∷ [] → c ≡ set_of (Device line.key.device) value
-    → value ≡ refused_bytes old line.version status
-    → old ≡ device_of board variables line.key.device → end ≡ Some (Refused status)
+    → value ≡ ended_bytes old line.version floor of
+    → old ≡ device_of board variables line.key.device → end ≡ Some of
     → (ids : UnitIds) (now : EfiTime)
-    → new ≡ batch ++ device_changes board variables (element_told line ids now) end
-device_pushed board variables line end status old value c batch new made is bytes state e ids now =
+    → new ≡ batch ++ device_changes board variables (element_with line floor ids now) end
+device_pushed board variables line floor end of old value c batch new made is bytes state e ids
+    now =
     made ∙ ap (λ d. batch ++ d ∷ []) is
     ∙ ap (λ b. batch ++ set_of (Device line.key.device) b ∷ []) bytes
     ∙ ap (λ s. batch ++ set_of (Device line.key.device)
-    (refused_bytes s line.version status) ∷ []) state
-    ∙ sym (ap (λ o. batch ++ device_changes board variables (element_told line ids now) o) e)
+    (ended_bytes s line.version floor of) ∷ []) state
+    ∙ sym (ap (λ o. batch ++ device_changes board variables (element_with line floor ids now) o) e)
 
 -- a batch with one more set of it has the result of a unit
-pub result_pushed : (board : BoardValue) (number : ℕ) (line : UnitLine) (ids : UnitIds)
+pub result_pushed : (board : BoardValue) (number : ℕ) (line : UnitLine) (floor : ℕ) (ids : UnitIds)
     (now : EfiTime) (part : Option FmpResult) (value : List ℕ) (c : Change)
     (batch new : List Change) → new ≡ batch ++ c ∷ [] → c ≡ set_of (Outcome number) value
     → value ≡ result_bytes (record {
@@ -76,10 +71,10 @@ pub result_pushed : (board : BoardValue) (number : ℕ) (line : UnitLine) (ids :
       fmp = part;
     })
     → line.status ≡ status_with line.kind line.end
-    → part ≡ fmp_part board (element_told line ids now) line.kind
-    → new ≡ batch ++ result_changes (result_at board number (element_told line ids now)
-    (element_told line ids now).standing)
-result_pushed board number line ids now part value c batch new made is bytes status same =
+    → part ≡ fmp_part board (element_with line floor ids now) line.kind
+    → new ≡ batch ++ result_changes (result_at board number (element_with line floor ids now)
+    (element_with line floor ids now).standing)
+result_pushed board number line floor ids now part value c batch new made is bytes status same =
     made ∙ ap (λ d. batch ++ d ∷ []) is
     ∙ ap (λ b. batch ++ set_of (Outcome number) b ∷ []) bytes
     ∙ ap (λ (s : EfiStatus). batch ++ set_of (Outcome number) (result_bytes (record {

@@ -43,7 +43,7 @@ use Rattle.var_log.specs.Changes.{Variables, after}
 
 -- ---- the open element of a list
 
-none_open : (list : List Element) → find is_open list ≡ None → NoneOpen list
+pub none_open : (list : List Element) → find is_open list ≡ None → NoneOpen list
 none_open [] h = tt
 none_open (x ∷ xs) h = by_test (is_open x) refl h (none_open xs)
   where
@@ -52,14 +52,14 @@ none_open (x ∷ xs) h = by_test (is_open x) refl h (none_open xs)
     by_test true e k rest = absurd cc
     by_test false e k rest = (e, rest k)
 
-record FoundAt (list : List Element) (e : Element) : Type 0 where
-  front : List Element
-  rest : List Element
-  parts : list ≡ front ++ e ∷ rest
-  none : NoneOpen front
-  is_it : is_open e ≡ true
+pub record FoundAt (list : List Element) (e : Element) : Type 0 where
+  pub front : List Element
+  pub rest : List Element
+  pub parts : list ≡ front ++ e ∷ rest
+  pub none : NoneOpen front
+  pub is_it : is_open e ≡ true
 
-found_at : (list : List Element) (e : Element) → find is_open list ≡ Some e → FoundAt list e
+pub found_at : (list : List Element) (e : Element) → find is_open list ≡ Some e → FoundAt list e
 found_at [] e h = absurd cc
 found_at (x ∷ xs) e h = by_test (is_open x) refl h (found_at xs e)
   where
@@ -181,7 +181,7 @@ settle_front variables m e end front n ends parts none is_it h =
       low = n.serial;
       version = n.version;
       floor = n.floor;
-      state = subst IsState (state_is e.key.device) n.state;
+      state = λ on. subst IsState (state_is e.key.device) (n.state on);
     }
 
 pub settle_holds : (variables : Variables) (m : Machine) (e : Element) (end : End) → IsNext m e
@@ -259,7 +259,7 @@ module _ (variables : Variables) (m : Machine) (e : Element) (n : IsNext m e)
       by_on true k is =
           let same : e.key.device ≡ d = eqb-true e.key.device d k in
           let parts = record_set m.board new d claimed (record {
-            state = subst IsState (sym before) n.state;
+            state = subst IsState (sym before) (n.state on);
             claim = subst (λ x. IsClaim x (claim_for e)) same is_claim;
           }) is in (
             parts.0 ∙ before ∙ ap (state_of m.board m.list) same

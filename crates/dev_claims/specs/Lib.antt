@@ -1,7 +1,12 @@
+pub mod Attempts
 pub mod Batches
+pub mod Claimed
 pub mod ClosedBy
+pub mod Ended
 pub mod Units
 pub mod Next
+pub mod Settling
 pub mod Steps
 pub mod Places
 pub mod Committing
+pub mod Preparing

@@ -21,7 +21,8 @@ pub record IsNext (m : Machine) (e : Element) : Type 0 where
   pub serial : e.key.ticket.serial < 2 ^ 64
   pub version : e.version < 2 ^ 32
   pub floor : e.floor < 2 ^ 32
-  pub state : IsState (state_of m.board m.list e.key.device)
+  pub state : e.key.device < length m.board.devices
+      → IsState (state_of m.board m.list e.key.device)
 
 -- an element may have this end: it is on a device of the board and the status has its width, or it
 -- tried nothing and has no device

@@ -48,14 +48,18 @@ floor_after Sealed old floor = max old floor
 floor_after Kept old floor = old
 floor_after Lost old floor = old
 
--- the state of a device once an element on it ended
-abbrev pub state_after : Element → End → DevState → DevState
-state_after e end old = record {
-  version = version_after end old.version e.version;
-  floor = floor_after end old.floor e.floor;
-  last_version = e.version;
+-- the state of a device once an image of this version and floor ended on it
+abbrev pub state_with : ℕ → ℕ → End → DevState → DevState
+state_with version floor end old = record {
+  version = version_after end old.version version;
+  floor = floor_after end old.floor floor;
+  last_version = version;
   last_status = attempt_status end;
 }
+
+-- the state of a device once an element on it ended
+abbrev pub state_after : Element → End → DevState → DevState
+state_after e end old = state_with e.version e.floor end old
 
 -- the record of the device on which an element ended, without a claim; none for a unit that tried
 -- nothing

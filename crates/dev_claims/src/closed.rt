@@ -62,7 +62,7 @@ pub fn close_unit<W: Flash>(
         (W.state flash.old).counts.flash_faults (W.state flash.new).counts.flash_faults result }
 {
     let number = next_result(board, store);
-    let batch = close_batch(alloc, board, now, store, line, ids)?;
+    let batch = close_batch(alloc, board, now, store, line, 0, ids)?;
     commit(alloc, store, flash, &batch)?;
     Ok(number)
 }

@@ -1,8 +1,8 @@
 //! The batch that closes a unit which starts no SetImage.
 
-ghost use Rattle.std.specs.Prelude.{◌≡◌, ◌≤◌, ◌++◌, IfOk, OnOk, true, filter, length, nat_lt};
+ghost use Rattle.std.specs.Prelude.{◌≡◌, ◌≤◌, ◌++◌, ℕ, IfOk, OnOk, true, filter, length, nat_lt};
 ghost use Rattle.cu_base.specs.declared.time.EfiTime.{EfiTime};
-ghost use Rattle.dev_claims.specs.ClosedBy.{MayClose, element_told};
+ghost use Rattle.dev_claims.specs.ClosedBy.{IsLine, element_with};
 ghost use Rattle.dev_claims.specs.Places.{AreBefore};
 ghost use Rattle.dev_claims.specs.declared.closing.UnitIds.{UnitIds};
 ghost use Rattle.dev_claims.specs.Units.{close_changes, device_changes, greatest_changes};
@@ -17,10 +17,11 @@ ghost use Rattle.stored_vars.specs.Progress.{units_among};
 ghost use Rattle.stored_vars.specs.declared.variable.StoredVar.TheVariants.{CapsuleMax};
 ghost use Rattle.var_store.specs.Stores.{variables_of};
 
+use crate::ending::state_with;
 use crate::pruning::{progress_kept, set_of};
 use crate::reading::{bytes_of, dev_state};
 use bench_model::Board;
-use cu_base::{Blob, DevState, EfiTime, Guid, Items, NoMemory, Text, guid_at};
+use cu_base::{Blob, EfiTime, Guid, Items, NoMemory, Text, guid_at};
 use reference_machine::{End, Kind, UnitKey, UnitLine};
 use report_tables::{FmpResult, ResultVar, next_number};
 use std::alloc::Global;
@@ -42,24 +43,25 @@ pub struct UnitIds {
     pub index: u8,
 }
 
-/// The batch that closes the unit of a line at a moment.
+/// The batch that closes the unit of a line, with the floor of its image, at a moment.
 pub(crate) fn close_batch(
     alloc: Global,
     board: &Board,
     now: &EfiTime,
     store: &VarStore,
     line: &UnitLine,
+    floor: u32,
     ids: &UnitIds,
 ) -> Result<Batch, NoMemory>
-    requires { MayClose line.now }
+    requires { IsLine line.now }
     ensures value { IfOk result (λ batch. batch.items ≡ close_changes board.now
-        (variables_of store.now) (element_told line.now ids.now now.now)) }
+        (variables_of store.now) (element_with line.now floor ids.now now.now)) }
     ensures places { IfOk result (λ batch. AreBefore 5 batch.items) }
     ensures few { IfOk result (λ batch. length batch.items ≤ 8) }
 {
     let mut batch = Batch::new(alloc);
     let number = next_result(board, store);
-    push_device(alloc, board, store, line, &mut batch)?;
+    push_device(alloc, board, store, line, floor, &mut batch)?;
     push_result(alloc, board, now, number, line, ids, &mut batch)?;
     push_greatest(alloc, board, store, &mut batch)?;
     let last = Blob::from_slice(alloc, &result_name_bytes(number))?;
@@ -78,31 +80,26 @@ pub(crate) fn next_result(board: &Board, store: &VarStore) -> u16
     }
 }
 
-/// Appends the record of the device on which a unit was refused, without a claim, where it was
-/// tried.
+/// Appends the record of the device on which a unit ended, without a claim, where it was tried.
 fn push_device(
     alloc: Global,
     board: &Board,
     store: &VarStore,
     line: &UnitLine,
+    floor: u32,
     batch: &mut Batch,
 ) -> Result<(), NoMemory>
-    requires line { MayClose line.now }
+    requires line { IsLine line.now }
     requires before { AreBefore 0 batch.old.items }
     ensures before { OnOk result (AreBefore 1 batch.new.items) }
     ensures ok { (ids : UnitIds) (now : EfiTime) → OnOk result (batch.new.items ≡ batch.old.items
         ++ device_changes board.now (variables_of store.now)
-        (element_told line.now ids now) line.now.end) }
+        (element_with line.now floor ids now) line.now.end) }
 {
-    if let Some(End::Refused(status)) = line.end {
+    if let Some(end) = line.end {
         let old = dev_state(store, board, line.key.device);
         let record = DevRec {
-            state: DevState {
-                version: old.version,
-                floor: old.floor,
-                last_version: line.version,
-                last_status: status,
-            },
+            state: state_with(line.version, floor, end, &old),
             claim: None,
         };
         let value = Blob::from_slice(alloc, &record.write())?;
@@ -121,12 +118,12 @@ fn push_result(
     ids: &UnitIds,
     batch: &mut Batch,
 ) -> Result<(), NoMemory>
-    requires line { MayClose line.now }
+    requires line { IsLine line.now }
     requires before { AreBefore 1 batch.old.items }
     ensures before { OnOk result (AreBefore 2 batch.new.items) }
-    ensures ok { OnOk result (batch.new.items ≡ batch.old.items ++ result_changes
-        (result_at board.now number (element_told line.now ids.now now.now)
-        (element_told line.now ids.now now.now).standing)) }
+    ensures ok { (floor : ℕ) → OnOk result (batch.new.items ≡ batch.old.items ++ result_changes
+        (result_at board.now number (element_with line.now floor ids.now now.now)
+        (element_with line.now floor ids.now now.now).standing)) }
 {
     let variable = ResultVar {
         guid: ids.capsule,
@@ -147,8 +144,8 @@ fn fmp_part(
     ids: &UnitIds,
 ) -> Result<Option<FmpResult>, NoMemory>
     requires name { is_key_name line.now.key.name ≡ true }
-    ensures value { (now : EfiTime) → IfOk result
-        (λ part. part ≡ fmp_part board.now (element_told line.now ids.now now) line.now.kind) }
+    ensures value { (floor : ℕ) (now : EfiTime) → IfOk result (λ part. part
+        ≡ fmp_part board.now (element_with line.now floor ids.now now) line.now.kind) }
     ensures size { IfOk result (λ part. length (fmp_bytes part) ≤ 400) }
 {
     let bytes: &[u8] = &ids.type_id.bytes;

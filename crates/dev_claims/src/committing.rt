@@ -60,7 +60,7 @@ pub(crate) fn commit<W: Flash>(
 }
 
 /// Whether no change sets more data than the limit.
-fn are_small(changes: &[Change]) -> bool
+pub(crate) fn are_small(changes: &[Change]) -> bool
     ensures { result ≡ are_small changes.now }
 {
     changes.iter().all(|change| is_small(change))

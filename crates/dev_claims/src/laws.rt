@@ -54,15 +54,16 @@ pub fn clearing_drops_all_progress()
 {}
 
 /// In a reached machine the progress that is stored has its width, and a unit that is due is next,
-/// where the numbers of its image and the state of its device have theirs. A boot comes to due units
-/// alone (`a_boot_comes_to_units_in_order` of reference_machine).
+/// where the numbers of its image, and the state of its device where it has one, have theirs. A boot
+/// comes to due units alone (`a_boot_comes_to_units_in_order` of reference_machine).
 pub fn due_units_are_next()
     ensures progress { (f : Formats) (board : BoardValue) (m : Machine) → KeepsLimits f →
         IsBoard board → IsReached f board m → ProgressFits m }
     ensures unit { (f : Formats) (board : BoardValue) (m : Machine) (e : Element) →
         KeepsLimits f → IsBoard board → IsReached f board m → IsDue m e.key →
         e.version < 2 ^ 32 → e.floor < 2 ^ 32 →
-        IsState (state_of m.board m.list e.key.device) → IsNext m e }
+        (e.key.device < length m.board.devices → IsState (state_of m.board m.list e.key.device)) →
+        IsNext m e }
 {}
 
 /// The batch of a claim leaves the variables of the machine with the claim, where no unit is open.

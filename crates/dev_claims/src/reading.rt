@@ -1,10 +1,14 @@
 //! What the variables of a store tell. No call here takes memory.
 
-ghost use Rattle.std.specs.Prelude.{◌≡◌, ◌<◌, IsTrue, option_map};
+ghost use Rattle.std.specs.Prelude.{◌≡◌, ◌<◌, ℕ, Some, IfSome, IsTrue, option_map, true};
 ghost use Rattle.bench_model.specs.declared.limits.TheConstants.{MAX_DEVICES};
+ghost use Rattle.bench_model.specs.Boards.{BoardValue, IsBoard};
+ghost use Rattle.dev_claims.specs.Claimed.{IsWide};
 ghost use Rattle.stored_vars.specs.Holds.{bytes_in, device_of, factory_state, is_claimed};
 ghost use Rattle.stored_vars.specs.Holds.{open_device_of, units_of};
+ghost use Rattle.stored_vars.specs.Records.{IsRecord, has_claim, record_in};
 ghost use Rattle.stored_vars.specs.Variables.{is_fixed, is_variable};
+ghost use Rattle.stored_vars.specs.declared.claim.DevRec.{DevRec};
 ghost use Rattle.var_store.specs.Stores.{variables_of};
 
 use bench_model::Board;
@@ -30,6 +34,8 @@ pub fn dev_state(store: &VarStore, board: &Board, device: u8) -> DevState
 /// The first device with an open claim, None exactly where no claim is open.
 pub fn open_claim(store: &VarStore, board: &Board) -> Option<u8>
     ensures value { result ≡ open_device_of board.now (variables_of store.now) }
+    ensures wide { IfSome result (IsWide board.now (variables_of store.now)) }
+    ensures rule { IsBoard board.now }
 {
     let count = board.devices().len();
     for k in 0..count {
@@ -54,12 +60,22 @@ pub fn progress(store: &VarStore, serial: u64) -> u32
 /// Whether the record of a device has an open claim.
 fn is_claimed(store: &VarStore, device: u8) -> bool
     requires { device < MAX_DEVICES }
-    ensures { result ≡ is_claimed (variables_of store.now) device }
+    ensures value { result ≡ is_claimed (variables_of store.now) device }
+    ensures wide { result ≡ true → (board : BoardValue) →
+        IsWide board (variables_of store.now) device }
 {
     match bytes_of(store, StoredVar::Device(device)) {
-        Some(bytes) => has_stored_claim(bytes),
+        Some(bytes) => has_claim(bytes),
         None => false,
     }
+}
+
+/// Whether a record has an open claim. What a record spells has its widths.
+fn has_claim(bytes: &[u8]) -> bool
+    ensures value { result ≡ has_claim bytes.now }
+    ensures wide { (d : ℕ) (r : DevRec) → record_in d bytes.now ≡ Some r → IsRecord d r }
+{
+    has_stored_claim(bytes)
 }
 
 /// The bytes of a variable that is no result, None exactly where it is not there.

@@ -1,5 +1,6 @@
 //! Images written by hand from the tables of UEFI 2.10, 23.1 and 23.2 and of EDK II's payload
-//! header, and admission by digests that another program computed.
+//! header, and admission by digests that another program computed. Which images are refused is shown
+//! by runs of the built program.
 
 use crate::texts::expect_text;
 use cu_base::{Blob, Digest, Guid};
@@ -94,14 +95,6 @@ fn accepted(rt: &impl Abort, alloc: Global, image: &[u8], support: u64, parts: P
     }
 }
 
-fn refused(rt: &impl Abort, alloc: Global, image: &[u8], support: u64, at: u32, why: PartWhy) {
-    assert!(rt; image.len() < 0x1_0000_0000);
-    match split(alloc, image, support) {
-        Ok(_) => panic!(rt; "accepted, and not refused at {at}: {why}"),
-        Err(refusal) => assert_eq!(rt; refusal, PartRefusal::Part(PartFault { at, why })),
-    }
-}
-
 #[test]
 fn a_plain_image(rt: HostRuntime) {
     let alloc = rt.alloc();
@@ -117,16 +110,6 @@ fn joined(alloc: Global, pieces: &[&[u8]]) -> Result<Blob, Fail> {
     let mut bytes = Blob::new(alloc);
     for piece in pieces {
         bytes.push_slice(piece)?;
-    }
-    Ok(bytes)
-}
-
-/// The image with another byte at a place.
-fn changed(alloc: Global, image: &Blob, at: usize, byte: u8) -> Result<Blob, Fail> {
-    let mut bytes = Blob::new(alloc);
-    for (k, old) in image.as_slice().iter().enumerate() {
-        let here = if k == at { byte } else { *old };
-        bytes.push_slice(&[here])?;
     }
     Ok(bytes)
 }
@@ -159,102 +142,6 @@ fn images_with_authentication_and_sections(rt: HostRuntime) -> Result<(), Fail> 
         3,
         parts(Some(auth()), Some(&SECTION), 20, &extra),
     );
-    refused(&rt, alloc, both.as_slice(), 0, 0, PartWhy::BadSignature);
-    refused(&rt, alloc, both.as_slice(), 1, 35, PartWhy::BadSignature);
-    refused(
-        &rt,
-        alloc,
-        both.as_slice(),
-        2,
-        18,
-        PartWhy::Dep(DepWhy::BadOpcode),
-    );
-    Ok(())
-}
-
-#[test]
-fn wrong_authentication_data_is_refused(rt: HostRuntime) -> Result<(), Fail> {
-    let alloc = rt.alloc();
-    let signed = joined(alloc, &[&AUTH, &PLAIN])?;
-    let cases = [
-        (8usize, 23u8, 8u32, PartWhy::BadAuthLength),
-        (8, 46, 8, PartWhy::BadAuthLength),
-        (12, 1, 12, PartWhy::BadRevision),
-        (13, 1, 12, PartWhy::BadRevision),
-        (14, 0xf0, 14, PartWhy::BadCertType),
-        (15, 0, 14, PartWhy::BadCertType),
-        (8, 45, 53, PartWhy::ShortPayloadHeader),
-        (8, 24, 32, PartWhy::BadSignature),
-    ];
-    for (place, byte, at, why) in cases {
-        let image = changed(alloc, &signed, place, byte)?;
-        refused(&rt, alloc, image.as_slice(), 1, at, why);
-    }
-    refused(&rt, alloc, &AUTH[..31], 1, 0, PartWhy::ShortAuth);
-    refused(&rt, alloc, &AUTH[..34], 1, 8, PartWhy::BadAuthLength);
-    let two_wrong = changed(alloc, &changed(alloc, &signed, 8, 23)?, 12, 1)?;
-    refused(
-        &rt,
-        alloc,
-        two_wrong.as_slice(),
-        1,
-        8,
-        PartWhy::BadAuthLength,
-    );
-    Ok(())
-}
-
-#[test]
-fn places_of_a_wrong_section_count_from_the_image(rt: HostRuntime) -> Result<(), Fail> {
-    let alloc = rt.alloc();
-    refused(&rt, alloc, &[0x06], 2, 1, PartWhy::Dep(DepWhy::NoEnd));
-    refused(&rt, alloc, &PLAIN, 2, 0, PartWhy::Dep(DepWhy::BadOpcode));
-    let wrong = joined(alloc, &[&AUTH, &[0x06, 0x03, 0x0d], &PLAIN])?;
-    refused(
-        &rt,
-        alloc,
-        wrong.as_slice(),
-        3,
-        36,
-        PartWhy::Dep(DepWhy::BadTypes),
-    );
-    let declared = joined(alloc, &[&AUTH, &[0x0e, 6, 0, 0, 0, 0x06, 0x0d], &PLAIN])?;
-    refused(
-        &rt,
-        alloc,
-        declared.as_slice(),
-        3,
-        36,
-        PartWhy::Dep(DepWhy::WrongDeclare),
-    );
-    Ok(())
-}
-
-#[test]
-fn wrong_payload_headers_are_refused(rt: HostRuntime) -> Result<(), Fail> {
-    let alloc = rt.alloc();
-    refused(&rt, alloc, &[], 0, 0, PartWhy::ShortPayloadHeader);
-    refused(&rt, alloc, &PLAIN[..15], 0, 0, PartWhy::ShortPayloadHeader);
-    let short = joined(alloc, &[&AUTH, &[0x06, 0x0d], &PLAIN[..15]])?;
-    refused(
-        &rt,
-        alloc,
-        short.as_slice(),
-        3,
-        37,
-        PartWhy::ShortPayloadHeader,
-    );
-    let both = joined(alloc, &[&AUTH, &[0x06, 0x0d], &PLAIN])?;
-    let cases = [
-        (40usize, 0x32u8, 37u32, PartWhy::BadSignature),
-        (41, 15, 41, PartWhy::BadPayloadHeaderSize),
-        (41, 19, 41, PartWhy::BadPayloadHeaderSize),
-        (44, 1, 41, PartWhy::BadPayloadHeaderSize),
-    ];
-    for (place, byte, at, why) in cases {
-        let image = changed(alloc, &both, place, byte)?;
-        refused(&rt, alloc, image.as_slice(), 3, at, why);
-    }
     Ok(())
 }
 

@@ -1,5 +1,6 @@
-//! Sections written by hand from the table of operations, and one call with ample memory of each
-//! function that may want memory.
+//! Sections written by hand from the table of operations: what they compute, and one call with ample
+//! memory of each function that may want memory. Which are refused is shown by runs of the built
+//! program.
 
 use crate::texts::expect_text;
 use cu_base::{Blob, Guid};
@@ -37,13 +38,6 @@ fn accepted(rt: &impl Abort, alloc: Global, bytes: &[u8], size: usize) -> Ops {
             ops
         }
         Err(refusal) => panic!(rt; "{refusal}"),
-    }
-}
-
-fn refused(rt: &impl Abort, alloc: Global, bytes: &[u8], at: u32, why: DepWhy) {
-    match read_ops(alloc, bytes) {
-        Ok((_, length)) => panic!(rt; "accepted with length {length}"),
-        Err(refusal) => assert_eq!(rt; refusal, DepRefusal::Dep(DepFault { at, why })),
     }
 }
 
@@ -111,70 +105,6 @@ fn each_operation_computes(rt: HostRuntime) -> Result<(), Fail> {
         let ops = accepted(&rt, alloc, bytes, bytes.len());
         assert_eq!(rt; eval(alloc, &ops, &none)?, answer, "{bytes:?}");
     }
-    Ok(())
-}
-
-#[test]
-fn broken_sections_are_refused(rt: HostRuntime) {
-    let alloc = rt.alloc();
-    let cases: [(&[u8], u32, DepWhy); 17] = [
-        (&[0x0e, 6, 0, 0, 0, 0x06, 0x0d], 1, DepWhy::WrongDeclare),
-        (&[0x06, 0x0e, 7, 0, 0, 0, 0x0d], 1, DepWhy::LateDeclare),
-        (&[0x0d], 0, DepWhy::NotOneBool),
-        (&[0x06, 0x03, 0x0d], 1, DepWhy::BadTypes),
-        (&[0x06], 1, DepWhy::NoEnd),
-        (&[], 0, DepWhy::NoEnd),
-        (&[0x01, 0x05, 0x00], 0, DepWhy::CutOperand),
-        (&[0x00; 16], 0, DepWhy::CutOperand),
-        (&[0x02, 0x61, 0x62], 0, DepWhy::CutOperand),
-        (&[0x0f], 0, DepWhy::BadOpcode),
-        (&[0x06, 0xff], 1, DepWhy::BadOpcode),
-        (&[1, 5, 0, 0, 0, 0x06, 0x0d], 6, DepWhy::NotOneBool),
-        (&[1, 5, 0, 0, 0, 0x0d], 5, DepWhy::NotOneBool),
-        (&[0x06, 0x06, 0x0d], 2, DepWhy::NotOneBool),
-        (&[1, 5, 0, 0, 0, 0x06, 0x08, 0x0d], 6, DepWhy::BadTypes),
-        (&[1, 5, 0, 0, 0, 0x05, 0x0d], 5, DepWhy::BadTypes),
-        (&[0x05, 0x0e, 7, 0, 0, 0, 0x0d], 1, DepWhy::LateDeclare),
-    ];
-    for (bytes, at, why) in cases {
-        refused(&rt, alloc, bytes, at, why);
-    }
-}
-
-#[test]
-fn a_declared_length_counts_the_end(rt: HostRuntime) {
-    let alloc = rt.alloc();
-    let _ops = accepted(&rt, alloc, &[0x0e, 7, 0, 0, 0, 0x06, 0x0d], 7);
-    let _front = accepted(&rt, alloc, &[0x0e, 7, 0, 0, 0, 0x06, 0x0d, 0xff], 7);
-}
-
-/// A first byte, some bytes 0x61, and a last part.
-fn long(alloc: Global, first: &[u8], middle: usize, last: &[u8]) -> Result<Blob, Fail> {
-    let mut bytes = Blob::from_slice(alloc, first)?;
-    for _ in 0..middle {
-        bytes.push_slice(&[0x61])?;
-    }
-    bytes.push_slice(last)?;
-    Ok(bytes)
-}
-
-#[test]
-fn sections_have_at_most_4096_bytes(rt: HostRuntime) -> Result<(), Fail> {
-    let alloc = rt.alloc();
-    let longest = long(alloc, &[2], 4092, &[0, 0x06, 0x0d])?;
-    let _ops = accepted(&rt, alloc, longest.as_slice(), 4096);
-    let end_behind = long(alloc, &[2], 4093, &[0, 0x06, 0x0d])?;
-    refused(&rt, alloc, end_behind.as_slice(), 4096, DepWhy::TooLong);
-    let text_behind = long(alloc, &[2], 4095, &[0, 0x06, 0x0d])?;
-    refused(&rt, alloc, text_behind.as_slice(), 0, DepWhy::TooLong);
-    let endless = long(alloc, &[2], 5000, &[])?;
-    refused(&rt, alloc, endless.as_slice(), 0, DepWhy::CutOperand);
-    let mut truths = Blob::new(alloc);
-    for _ in 0..4096 {
-        truths.push_slice(&[0x06])?;
-    }
-    truths.push_slice(&[0x0d])?;
-    refused(&rt, alloc, truths.as_slice(), 4096, DepWhy::TooLong);
     Ok(())
 }
 

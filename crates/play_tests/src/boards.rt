@@ -1,4 +1,5 @@
-//! Boards read from their texts.
+//! What is read of a board's text, and the messages of its faults. Which texts are refused is shown
+//! by runs of the built program.
 
 use bench_model::{Board, Device};
 use cu_base::Guid;
@@ -6,255 +7,35 @@ use recipe_files::{BadKind, FileFault, read_board};
 use std::alloc::Global;
 use std::process::Abort;
 
-// A board of two devices, line by line.
-const BOARD: &[&str] = &[
-    "bank = 65536",
-    "result_max = 15",
-    "digests = []",
-    "[[device]]",
-    "name = \"sys\"",
-    "type = \"aaaaaaaa-0000-0000-0000-000000000001\"",
-    "index = 1",
-    "instance = 0",
-    "fw_type = 1",
-    "capacity = 33554432",
-    "version = 3",
-    "floor = 2",
-    "flags = 0",
-    "[[device]]",
-    "name = \"ec\"",
-    "type = \"bbbbbbbb-0000-0000-0000-000000000002\"",
-    "index = 2",
-    "instance = 4",
-    "fw_type = 2",
-    "capacity = 65536",
-    "version = 7",
-    "floor = 6",
-    "flags = 5",
-];
+/// A board of two devices.
+const BOARD: &str = "bank = 65536
+result_max = 15
+unknown = 1
+digests = [\"000102030405060708090a0b0c0d0e0f101112131415161718191a1b1c1d1eff\"]
+[[device]]
+name = \"sys\"
+type = \"aaaaaaaa-0000-0000-0000-000000000001\"
+index = 1
+instance = 0
+fw_type = 1
+capacity = 33554432
+version = 3
+floor = 2
+flags = 0
+[[device]]
+name = \"ec\"
+type = \"bbbbbbbb-0000-0000-0000-000000000002\"
+index = 2
+instance = 4
+fw_type = 2
+capacity = 65536
+version = 7
+floor = 6
+flags = 5
+";
 
-/// The board's text with other lines in place of some.
-fn with_lines(alloc: Global, rt: &impl Abort, changes: &[(usize, &str)]) -> String {
-    let mut text = String::new(alloc);
-    for (number, line) in BOARD.iter().enumerate() {
-        let changed = changes.iter().find(|change| change.0 == number);
-        let line = changed.map_or(*line, |change| change.1);
-        text.push_str(line).expect(rt, "memory");
-        text.push_str("\n").expect(rt, "memory");
-    }
-    text
-}
-
-/// The fault of a text: its kind, and whether its key is this one.
-fn told(alloc: Global, text: &[u8], key: &str) -> Option<(BadKind, bool)> {
-    match read_board(alloc, text) {
-        Err(FileFault::Bad { kind, key: found }) => Some((kind, found.as_str() == key)),
-        _ => None,
-    }
-}
-
-fn tells(alloc: Global, rt: &impl Abort, changes: &[(usize, &str)], kind: BadKind, key: &str) {
-    let text = with_lines(alloc, rt, changes);
-    assert_eq!(rt;
-        told(alloc, text.as_str().as_bytes(), key),
-        Some((kind, true)),
-        "at {key} of {text}"
-    );
-}
-
-#[test]
-fn absent_keys(rt: HostRuntime) {
-    for (line, key) in [
-        (0, "bank"),
-        (1, "result_max"),
-        (2, "digests"),
-        (4, "name"),
-        (5, "type"),
-        (6, "index"),
-        (7, "instance"),
-        (8, "fw_type"),
-        (9, "capacity"),
-        (10, "version"),
-        (11, "floor"),
-        (12, "flags"),
-        (14, "name"),
-        (22, "flags"),
-    ] {
-        tells(rt.alloc(), &rt, &[(line, "")], BadKind::MissingKey, key);
-    }
-}
-
-#[test]
-fn absent_keys_that_are_optional(rt: HostRuntime) {
-    let alloc = rt.alloc();
-    let plain = board(alloc, &rt, &with_lines(alloc, &rt, &[]));
-    assert_eq!(rt; (plain.store(), plain.two_banks()), (2, false));
-    for (line, store, two_banks) in [
-        ("bank = 65536\nstore = 1", 1, false),
-        ("bank = 65536\nstore = 2", 2, false),
-        ("bank = 65536\nlayout = \"one\"", 2, false),
-        ("bank = 65536\nlayout = \"two\"", 2, true),
-        ("bank = 65536\nlayout = \"two\"\nstore = 1", 1, true),
-    ] {
-        let found = board(alloc, &rt, &with_lines(alloc, &rt, &[(0, line)]));
-        assert_eq!(rt;
-            (found.store(), found.two_banks()),
-            (store, two_banks),
-            "at {line}"
-        );
-    }
-}
-
-#[test]
-fn values_of_another_kind(rt: HostRuntime) {
-    for (line, text, key) in [
-        (0, "bank = true", "bank"),
-        (0, "bank = 65536\nstore = \"2\"", "store"),
-        (0, "bank = 65536\nlayout = 2", "layout"),
-        (0, "bank = 65536\nlayout = [\"two\"]", "layout"),
-        (1, "result_max = \"15\"", "result_max"),
-        (2, "digests = 1", "digests"),
-        (2, "digests = [1]", "digests"),
-        (4, "name = 1", "name"),
-        (5, "type = 1", "type"),
-        (6, "index = 1.0", "index"),
-        (7, "instance = []", "instance"),
-        (8, "fw_type = {}", "fw_type"),
-        (9, "capacity = 1979-05-27", "capacity"),
-        (10, "version = \"\"", "version"),
-        (11, "floor = false", "floor"),
-        (12, "flags = \"0\"", "flags"),
-    ] {
-        tells(rt.alloc(), &rt, &[(line, text)], BadKind::WrongKind, key);
-    }
-}
-
-#[test]
-fn values_outside_their_limits(rt: HostRuntime) {
-    for (line, text, key) in [
-        (0, "bank = 65535", "bank"),
-        (0, "bank = 1048577", "bank"),
-        (0, "bank = -65536", "bank"),
-        (0, "bank = 65536\nstore = 0", "store"),
-        (0, "bank = 65536\nstore = 3", "store"),
-        (0, "bank = 65536\nstore = -2", "store"),
-        (0, "bank = 65536\nlayout = \"\"", "layout"),
-        (0, "bank = 65536\nlayout = \"TWO\"", "layout"),
-        (0, "bank = 65536\nlayout = \"twos\"", "layout"),
-        (1, "result_max = 65536", "result_max"),
-        (1, "result_max = -1", "result_max"),
-        (4, "name = \"\"", "name"),
-        (4, "name = \"abcdefghijklmnopq\"", "name"),
-        (4, "name = \"a b\"", "name"),
-        (6, "index = 256", "index"),
-        (6, "index = -1", "index"),
-        (7, "instance = -1", "instance"),
-        (8, "fw_type = 4", "fw_type"),
-        (9, "capacity = 0", "capacity"),
-        (9, "capacity = 67108865", "capacity"),
-        (10, "version = 4294967296", "version"),
-        (11, "floor = 4294967296", "floor"),
-        (12, "flags = -1", "flags"),
-    ] {
-        tells(rt.alloc(), &rt, &[(line, text)], BadKind::OutOfRange, key);
-    }
-}
-
-#[test]
-fn refused_digests(rt: HostRuntime) {
-    for text in [
-        "digests = [\"\"]",
-        "digests = [\"0123456789abcdef0123456789abcdef0123456789abcdef0123456789abcde\"]",
-        "digests = [\"0123456789abcdef0123456789abcdef0123456789abcdef0123456789abcdef0\"]",
-        "digests = [\"0123456789abcdef0123456789abcdef0123456789abcdef0123456789abcdeF\"]",
-        "digests = [\"0123456789abcdef0123456789abcdef0123456789abcdef0123456789abcdeg\"]",
-        "digests = [\"0123456789abcdef0123456789abcdef0123456789abcdef0123456789abcdef\", \"\"]",
-    ] {
-        tells(
-            rt.alloc(),
-            &rt,
-            &[(2, text)],
-            BadKind::OutOfRange,
-            "digests",
-        );
-    }
-}
-
-#[test]
-fn other_faults(rt: HostRuntime) {
-    for (line, text, kind, key) in [
-        (5, "type = \"sys\"", BadKind::BadGuid, "type"),
-        (14, "name = \"sys\"", BadKind::Repeated, "name"),
-        (1, "bank = 65536", BadKind::BadToml, "-"),
-        (1, "result_max = 240", BadKind::BankTooSmall, "bank"),
-    ] {
-        tells(rt.alloc(), &rt, &[(line, text)], kind, key);
-    }
-}
-
-#[test]
-fn the_first_fault_is_told(rt: HostRuntime) {
-    let bank = [(0, "bank = 0"), (1, ""), (2, "")];
-    tells(rt.alloc(), &rt, &bank, BadKind::OutOfRange, "bank");
-    let store = [(0, "bank = 65536\nlayout = 1\nstore = 3"), (1, "")];
-    tells(rt.alloc(), &rt, &store, BadKind::OutOfRange, "store");
-    let layout = [(0, "bank = 65536\nlayout = 1"), (1, "")];
-    tells(rt.alloc(), &rt, &layout, BadKind::WrongKind, "layout");
-    let capacity = [(9, "capacity = 0"), (10, "")];
-    tells(rt.alloc(), &rt, &capacity, BadKind::OutOfRange, "capacity");
-    let bank_last = [(1, "result_max = 240"), (22, "")];
-    tells(rt.alloc(), &rt, &bank_last, BadKind::MissingKey, "flags");
-    let digests = [(2, "digests = [\"\", 1]"), (4, "")];
-    tells(rt.alloc(), &rt, &digests, BadKind::OutOfRange, "digests");
-    let first_table = [(12, "flags = -1"), (14, "")];
-    tells(rt.alloc(), &rt, &first_table, BadKind::OutOfRange, "flags");
-    let name = [(14, "name = \"sys\""), (15, "")];
-    tells(rt.alloc(), &rt, &name, BadKind::Repeated, "name");
-    let triple = "type = \"AAAAAAAA-0000-0000-0000-000000000001\"\nindex = 1\ninstance = 0";
-    let instance = [(15, triple), (16, ""), (17, ""), (18, "")];
-    tells(rt.alloc(), &rt, &instance, BadKind::Repeated, "instance");
-    let guid = [(5, "type = \"\""), (6, "index = \"\""), (7, "")];
-    tells(rt.alloc(), &rt, &guid, BadKind::BadGuid, "type");
-}
-
-#[test]
-fn texts_that_are_no_board(rt: HostRuntime) {
-    for (text, kind, key) in [
-        (b"bank".as_slice(), BadKind::BadToml, "-"),
-        (b"bank = 65536 \xff".as_slice(), BadKind::BadToml, "-"),
-        (b"".as_slice(), BadKind::MissingKey, "bank"),
-        (
-            b"bank = 65536\nresult_max = 15\ndigests = []\n".as_slice(),
-            BadKind::MissingKey,
-            "device",
-        ),
-        (
-            b"bank = 65536\nresult_max = 15\ndigests = []\ndevice = []".as_slice(),
-            BadKind::MissingKey,
-            "device",
-        ),
-        (
-            b"bank = 65536\nresult_max = 15\ndigests = []\ndevice = 1".as_slice(),
-            BadKind::WrongKind,
-            "device",
-        ),
-        (
-            b"bank = 65536\nresult_max = 15\ndigests = []\ndevice = [1]".as_slice(),
-            BadKind::WrongKind,
-            "device",
-        ),
-        (
-            b"bank = 65536\nresult_max = 15\ndigests = []\ndevice = [1,1,1,1,1,1,1,1,1,1,1,1,1,1,1,1,1]".as_slice(),
-            BadKind::OutOfRange,
-            "device",
-        ),
-    ] {
-        assert_eq!(rt; told(rt.alloc(), text, key), Some((kind, true)), "at {key}");
-    }
-}
-
-fn board(alloc: Global, rt: &impl Abort, text: &String) -> Board {
-    read_board(alloc, text.as_str().as_bytes())
+fn board(alloc: Global, rt: &impl Abort, text: &str) -> Board {
+    read_board(alloc, text.as_bytes())
         .ok()
         .expect(rt, "a board")
 }
@@ -273,12 +54,7 @@ fn numbers(device: &Device) -> [u64; 7] {
 
 #[test]
 fn the_board_of_a_text(rt: HostRuntime) {
-    let alloc = rt.alloc();
-    let digest = (
-        2,
-        "unknown = 1\ndigests = [\"000102030405060708090a0b0c0d0e0f101112131415161718191a1b1c1d1eff\"]",
-    );
-    let board = board(alloc, &rt, &with_lines(alloc, &rt, &[digest]));
+    let board = board(rt.alloc(), &rt, BOARD);
     assert_eq!(rt; board.bank(), 65_536);
     assert_eq!(rt; board.result_max(), 15);
     let digests = board.digests();
@@ -302,139 +78,22 @@ fn the_board_of_a_text(rt: HostRuntime) {
 }
 
 #[test]
-fn values_at_their_limits(rt: HostRuntime) {
+fn forms_of_the_store_and_of_slots(rt: HostRuntime) {
     let alloc = rt.alloc();
-    for (line, text) in [
-        (0, "bank = 1048576"),
-        (1, "result_max = 239"),
-        (4, "name = \"abcdefghijklmno.\""),
-        (5, "type = \"{AAAAAAAA-0000-0000-0000-00000000000F}\""),
-        (6, "index = 255"),
-        (7, "instance = 9223372036854775807"),
-        (8, "fw_type = 3"),
-        (9, "capacity = 67108864"),
-        (9, "capacity = 1"),
-        (10, "version = 4294967295"),
-        (14, "name = \"SYS\""),
-        (15, "type = \"aaaaaaaa-0000-0000-0000-000000000001\""),
+    for (lines, store, two_banks) in [
+        ("", 2, false),
+        ("store = 1\n", 1, false),
+        ("store = 2\n", 2, false),
+        ("layout = \"one\"\n", 2, false),
+        ("layout = \"two\"\n", 2, true),
+        ("layout = \"two\"\nstore = 1\n", 1, true),
     ] {
-        let text = with_lines(alloc, &rt, &[(line, text)]);
-        assert!(rt;
-            read_board(alloc, text.as_str().as_bytes()).is_ok(),
-            "at {text}"
-        );
-    }
-}
-
-/// A board's text of these first lines, with so many digests and a device of each capacity.
-fn with_counts(
-    alloc: Global,
-    rt: &impl Abort,
-    head: &str,
-    digests: usize,
-    capacities: &[u32],
-) -> String {
-    let mut text = String::from_str(alloc, head).expect(rt, "memory");
-    text.push_str("\nresult_max = 0\ndigests = [\n")
-        .expect(rt, "memory");
-    for _ in 0..digests {
-        text.push_str("\"0123456789abcdef0123456789abcdef0123456789abcdef0123456789abcdef\",\n")
-            .expect(rt, "memory");
-    }
-    text.push_str("]\n").expect(rt, "memory");
-    for (number, capacity) in capacities.iter().enumerate() {
-        let table = format!(in alloc;
-            "[[device]]\nname = \"d{number}\"\ntype = \"aaaaaaaa-0000-0000-0000-000000000001\"\nindex = {number}\ncapacity = {capacity}\n"
-        ).expect(rt, "memory");
-        text.push_str(table.as_str()).expect(rt, "memory");
-        text.push_str("instance = 0\nfw_type = 0\nversion = 0\nfloor = 0\nflags = 0\n")
-            .expect(rt, "memory");
-    }
-    text
-}
-
-const BANK: &str = "bank = 65536";
-
-const TWO: &str = "bank = 65536\nlayout = \"two\"";
-
-const MOST: u32 = 67_108_864;
-
-#[test]
-fn counts_at_their_limits(rt: HostRuntime) {
-    let alloc = rt.alloc();
-    let full = board(alloc, &rt, &with_counts(alloc, &rt, BANK, 1_024, &[1; 16]));
-    assert_eq!(rt; full.devices().len(), 16);
-    assert_eq!(rt; full.digests().len(), 1_024);
-    for (digests, devices, key) in [
-        (0, [1; 17].as_slice(), "device"),
-        (1_025, [1; 1].as_slice(), "digests"),
-        (1_025, [1; 17].as_slice(), "digests"),
-    ] {
-        let text = with_counts(alloc, &rt, BANK, digests, devices);
+        let text = format!(in alloc; "{lines}{BOARD}").expect(&rt, "memory");
+        let found = board(alloc, &rt, text.as_str());
         assert_eq!(rt;
-            told(alloc, text.as_str().as_bytes(), key),
-            Some((BadKind::OutOfRange, true)),
-            "at {key}"
-        );
-    }
-}
-
-// 536,870,912 is eight times 67,108,864, and 268,435,456 four times.
-#[test]
-fn capacities_in_sum(rt: HostRuntime) {
-    let alloc = rt.alloc();
-    for (head, capacities) in [
-        (BANK, [MOST; 8].as_slice()),
-        (
-            BANK,
-            [MOST, MOST, MOST, MOST, MOST, MOST, MOST, MOST - 1, 1].as_slice(),
-        ),
-        (TWO, [MOST; 4].as_slice()),
-        (TWO, [MOST, 1, MOST, MOST, MOST - 1].as_slice()),
-    ] {
-        let text = with_counts(alloc, &rt, head, 0, capacities);
-        assert_eq!(rt;
-            board(alloc, &rt, &text).devices().len(),
-            capacities.len(),
-            "at {text}"
-        );
-    }
-    for (head, capacities) in [
-        (
-            BANK,
-            [MOST, MOST, MOST, MOST, MOST, MOST, MOST, MOST, 1].as_slice(),
-        ),
-        (
-            BANK,
-            [MOST, MOST, MOST, MOST, MOST, MOST, MOST, MOST - 1, 2].as_slice(),
-        ),
-        (TWO, [MOST, MOST, MOST, MOST, 1].as_slice()),
-        (TWO, [MOST, 1, MOST, MOST, MOST].as_slice()),
-    ] {
-        let text = with_counts(alloc, &rt, head, 0, capacities);
-        assert_eq!(rt;
-            told(alloc, text.as_str().as_bytes(), "capacity"),
-            Some((BadKind::OutOfRange, true)),
-            "at {text}"
-        );
-    }
-}
-
-// The last device has wrong flags; where it also passes the sum, its capacity stands before them.
-#[test]
-fn the_sum_is_told_at_the_device_that_passes_it(rt: HostRuntime) {
-    let alloc = rt.alloc();
-    let ending = "\ninstance = 0\nfw_type = 0\nversion = 0\nfloor = 0\nflags = -1\n";
-    for (devices, key) in [(4, "capacity"), (3, "flags")] {
-        let mut text = with_counts(alloc, &rt, TWO, 0, &[MOST, MOST, MOST, MOST][..devices]);
-        text.push_str(
-            "[[device]]\nname = \"last\"\ntype = \"aaaaaaaa-0000-0000-0000-000000000001\"\nindex = 9\ncapacity = 2",
-        ).expect(&rt, "memory");
-        text.push_str(ending).expect(&rt, "memory");
-        assert_eq!(rt;
-            told(alloc, text.as_str().as_bytes(), key),
-            Some((BadKind::OutOfRange, true)),
-            "at {key}"
+            (found.store(), found.two_banks()),
+            (store, two_banks),
+            "at {lines}"
         );
     }
 }

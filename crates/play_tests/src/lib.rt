@@ -5,9 +5,9 @@
 #[cfg(test)]
 mod boards;
 #[cfg(test)]
-mod deliveries;
-#[cfg(test)]
 mod platform;
+#[cfg(test)]
+mod recipes;
 #[cfg(test)]
 mod reports;
 #[cfg(test)]

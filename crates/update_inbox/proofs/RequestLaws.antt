@@ -73,7 +73,7 @@ signal_holds variables m is h =
 -- ---- a free variable
 
 -- where no number of a range is free, each gives an item
-full : {X : Type 0} (f : ℕ → Option X) (a n : ℕ)
+pub full : {X : Type 0} (f : ℕ → Option X) (a n : ℕ)
     → find (λ k. is_none (f k)) (range_with_len a n) ≡ None
     → length (filter_map f (range_with_len a n)) ≡ n
 full f a zero h = refl
@@ -88,12 +88,12 @@ full {X} f a (suc n) h = by_first (f a) refl h (full f (a + 1) n)
     by_first (Some x) e k rest = ap suc (rest k)
 
 -- a number that is found is free
-record IsFree {X : Type 0} (f : ℕ → Option X) (a n k : ℕ) : Type 0 where
+pub record IsFree {X : Type 0} (f : ℕ → Option X) (a n k : ℕ) : Type 0 where
   from : a ≤ k
   below : k < a + n
   free : f k ≡ None
 
-is_free : {X : Type 0} (f : ℕ → Option X) (a n k : ℕ)
+pub is_free : {X : Type 0} (f : ℕ → Option X) (a n k : ℕ)
     → find (λ j. is_none (f j)) (range_with_len a n) ≡ Some k → IsFree f a n k
 is_free f a zero k h = absurd cc
 is_free {X} f a (suc n) k h = by_first (f a) refl h (is_free f (a + 1) n k)

@@ -4,7 +4,8 @@ use Rattle.std.proofs.Common.{Some, None, Err, arith, inl, inr}
 use Rattle.bench_model.specs.Bench.{BenchValue}
 use Rattle.reference_machine.specs.declared.snapshot.StagedPair.{StagedPair}
 use Rattle.update_inbox.specs.Answers.{BatchAnswers}
-use Rattle.update_inbox.specs.Staging.{StagingAnswers, batch_of, stage_batch}
+use Rattle.std.specs.Prelude.{Option}
+use Rattle.update_inbox.specs.Staging.{IsDelivery, IsTaken, StagingAnswers, batch_of, stage_batch}
 use Rattle.update_inbox.specs.declared.fault.InboxFault.{InboxFault}
 use Rattle.update_inbox.specs.declared.fault.InboxFault.TheVariants as inbox
 use Rattle.update_inbox.specs.declared.staging.Delivery.{Delivery}
@@ -57,3 +58,9 @@ staging_refused address old inbox.Flash answer = tt
 staging_refused address old inbox.Volume answer = absurd answer
 staging_refused address old inbox.NoBank answer = answer
 staging_refused address old inbox.Memory answer = tt
+
+-- a batch in doubt is that of a delivery that is taken
+pub taken_where : (address : ℕ) (old : BenchValue) (pending : Option ℕ) → IsDelivery address old
+    → IsTaken address old pending
+taken_where address old None is = tt
+taken_where address old (Some number) is = is

@@ -1,12 +1,13 @@
 -- One batch over every image of the banks: each has the variables and the number of the last batch
 -- that an image at entry had, or these with the batch, wholly.
 use Rattle.std.specs.Prelude.{◌≡◌, ◌⊎◌, ℕ, ◌+◌, List, [], ◌∷◌, Option, Some, None, option_map}
-use Rattle.std.specs.Prelude.{bit_or}
+use Rattle.std.specs.Prelude.{bit_or, IfSome}
 use Rattle.bench_model.specs.Bench.{AreImages, BenchValue}
 use Rattle.stored_vars.specs.Holds.{indications_of}
 use Rattle.stored_vars.specs.Numbers.{number_bytes}
 use Rattle.stored_vars.specs.Variables.{attributes_of, guid_of, name_of}
 use Rattle.stored_vars.specs.declared.variable.StoredVar.TheVariants.{OsIndications}
+use Rattle.var_store.specs.declared.note.Note.{Note}
 use Rattle.var_log.specs.declared.change.Change.{Change}
 use Rattle.var_log.specs.declared.change.Change.TheVariants.{Set}
 use Rattle.var_log.specs.Banks.{StoreValue, store_of}
@@ -53,6 +54,29 @@ MayHaveStored batch None old new =
 MayHaveStored batch (Some number) old new =
     (image : ℕ → List ℕ) → AreImages new.contents image
     → HoldsAsBefore old (store_of image) ⊎ HoldsBatch batch old (store_of image)
+
+-- each image has the batch over what was read
+abbrev pub HasStoredRead : (Variables → List Change) → BenchValue → BenchValue → Type 0
+HasStoredRead batch old new =
+    (image : ℕ → List ℕ) → AreImages new.contents image
+    → content_of (store_of image) ≡ with_batch_of batch (content_of (store_of old.contents.bytes))
+
+-- each image has what was read, where no batch is in doubt; else each has that with the batch or not
+abbrev pub MayHaveStoredRead : (Variables → List Change) → Option ℕ → BenchValue → BenchValue
+    → Type 0
+MayHaveStoredRead batch None old new =
+    (image : ℕ → List ℕ) → AreImages new.contents image
+    → content_of (store_of image) ≡ content_of (store_of old.contents.bytes)
+MayHaveStoredRead batch (Some number) old new =
+    (image : ℕ → List ℕ) → AreImages new.contents image
+    → (content_of (store_of image) ≡ content_of (store_of old.contents.bytes))
+    ⊎ (content_of (store_of image)
+    ≡ with_batch_of batch (content_of (store_of old.contents.bytes)))
+
+-- the same once the store was opened, by what was noted of it
+abbrev pub StoresRead : (Variables → List Change) → Note → BenchValue → BenchValue → Type 0
+StoresRead batch note old new =
+    IfSome note.opened (λ seq. MayHaveStoredRead batch note.pending old new)
 
 -- the batch of `signal`: OsIndications with bit 0x04 (UEFI 2.10, 8.5.4)
 abbrev pub signal_batch : Variables → List Change

@@ -1,6 +1,6 @@
 -- A delivery by memory (UEFI 2.10, 8.5.3): when it is taken, and the batch that stages it.
 use Rattle.std.specs.Prelude.{◌≡◌, ◌⊎◌, ℕ, ◌+◌, ◌-◌, ◌^◌, true, List, [], ◌∷◌, find, nat_le}
-use Rattle.std.specs.Prelude.{is_none, Option, Some, None, Result, Ok, Err}
+use Rattle.std.specs.Prelude.{is_none, IfSome, Option, Some, None, Result, Ok, Err}
 use Rattle.std.specs.Prelude.{option_map, if◌then◌else◌}
 use Rattle.std.specs.List.{range_with_len}
 use Rattle.bench_model.specs.Bench.{BenchValue}
@@ -78,6 +78,16 @@ pub record Takes (address : ℕ) (old : BenchValue) (serial : Option ℕ) : Type
   pub store : HeldStore
   pub opened : IsOpening old store
   pub is : option_map (λ d. d.pair.serial) (next_delivery address (variables_of store)) ≡ serial
+
+-- the capsule at an address passed the checks, and the store takes its delivery
+pub record IsDelivery (address : ℕ) (old : BenchValue) : Type 0 where
+  pub passes : list_refusal old address ≡ None
+  pub serial : ℕ
+  pub takes : Takes address old (Some serial)
+
+-- a batch is in doubt only where the capsule passed the checks, and the store takes its delivery
+abbrev pub IsTaken : ℕ → BenchValue → Option ℕ → Type 0
+IsTaken address old pending = IfSome pending (λ number. IsDelivery address old)
 
 -- when each answer to a staging comes
 abbrev pub StagingAnswers : ℕ → BenchValue → Result ℕ InboxFault → Type 0

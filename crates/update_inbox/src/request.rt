@@ -4,7 +4,8 @@ ghost use Rattle.std.specs.Prelude.{◌≡◌, ◌+◌, ◌≤◌, [], ◌∷◌
 ghost use Rattle.cu_base.specs.Causes.{HasCauseOf};
 ghost use Rattle.update_inbox.specs.Answers.{BatchAnswers, MovesOfBatch, NotesBatch};
 ghost use Rattle.update_inbox.specs.Answers.{NotesOpened, NotesOpening};
-ghost use Rattle.update_inbox.specs.Batches.{HasStored, MayHaveStored, signal_batch};
+ghost use Rattle.update_inbox.specs.Batches.{HasStored, HasStoredRead, MayHaveStored};
+ghost use Rattle.update_inbox.specs.Batches.{StoresRead, signal_batch};
 ghost use Rattle.stored_vars.specs.Holds.{indications_of};
 ghost use Rattle.var_log.specs.Logs.{ChangesBanks, HasBanks};
 ghost use Rattle.var_store.specs.Stores.{variables_of};
@@ -27,6 +28,10 @@ pub fn signal<W: Platform>(alloc: Global, bench: &mut W, note: &mut Note) -> Res
     requires banks { HasBanks (W.state bench.old) }
     ensures durable { OnOk result (HasStored signal_batch (W.state bench.old) (W.state bench.new)) }
     ensures images { OnErr result (MayHaveStored signal_batch note.new.pending (W.state bench.old)
+        (W.state bench.new)) }
+    ensures read { OnOk result (HasStoredRead signal_batch (W.state bench.old)
+        (W.state bench.new)) }
+    ensures kept { OnErr result (StoresRead signal_batch note.new (W.state bench.old)
         (W.state bench.new)) }
     ensures opening { NotesOpening (W.state bench.old) note.new.opened }
     ensures noted { NotesOpened result note.new.opened }

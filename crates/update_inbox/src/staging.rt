@@ -4,9 +4,10 @@ ghost use Rattle.std.specs.Prelude.{◌≡◌, ◌+◌, ◌≤◌, ◌<◌, IfOk
 ghost use Rattle.cu_base.specs.Causes.{HasCauseOf};
 ghost use Rattle.stored_vars.specs.Holds.{last_staged_of};
 ghost use Rattle.update_inbox.specs.Answers.{NotesBatch, NotesOpened, NotesOpening};
-ghost use Rattle.update_inbox.specs.Batches.{HasStored, MayHaveStored};
+ghost use Rattle.update_inbox.specs.Batches.{HasStored, HasStoredRead, MayHaveStored};
+ghost use Rattle.update_inbox.specs.Batches.{StoresRead};
 ghost use Rattle.update_inbox.specs.Staging.{StagingAnswers, batch_of, free_stage, next_delivery};
-ghost use Rattle.update_inbox.specs.Staging.{StagingMoves, stage_batch};
+ghost use Rattle.update_inbox.specs.Staging.{IsTaken, StagingMoves, stage_batch};
 ghost use Rattle.var_log.specs.Logs.{ChangesBanks, HasBanks};
 ghost use Rattle.var_store.specs.Stores.{variables_of};
 
@@ -45,6 +46,11 @@ pub fn update_capsule<W: Platform>(
         (W.state bench.new)) }
     ensures images { OnErr result (MayHaveStored (stage_batch address) note.new.pending
         (W.state bench.old) (W.state bench.new)) }
+    ensures read { OnOk result (HasStoredRead (stage_batch address) (W.state bench.old)
+        (W.state bench.new)) }
+    ensures kept { OnErr result (StoresRead (stage_batch address) note.new (W.state bench.old)
+        (W.state bench.new)) }
+    ensures taken { IsTaken address (W.state bench.old) note.new.pending }
     ensures opening { NotesOpening (W.state bench.old) note.new.opened }
     ensures noted { NotesOpened result note.new.opened }
     ensures pending { NotesBatch note.new }

@@ -18,7 +18,7 @@ loop-file-init g c =
     record {
       ready = c.requires.ready;
       regions = c.requires.regions;
-      frame = record { told = refl; count = refl; long = λ k. refl };
+      frame = record { told = refl; count = refl; long = λ k. refl; orders = refl };
       faults = omega arith;
       there = c.requires.there;
       goes = goes_nowhere x IsFolder KeepsNothing

@@ -1,6 +1,8 @@
 use Rattle.std.proofs.Common.{rules, ◌≡◌, Err, refl, sym, ap, ◌∙◌}
 use Rattle.bench_model.specs.Bench.{Contents}
-use Rattle.bench_model.specs.Files.{File, FolderValue, listed}
+use Rattle.std.proofs.Common.{List, subst}
+use Rattle.std.specs.List.{AllPairs}
+use Rattle.bench_model.specs.Files.{File, FolderValue, HaveOtherSerials, ListedFile, listed}
 use Rattle.reference_machine.specs.Boots.{folder_tasks}
 use Rattle.reference_machine.specs.Names.{is_taken_before}
 use Rattle.reference_machine.specs.Order.{in_order}
@@ -73,6 +75,8 @@ take_files-requires-clause-there g c =
     (sym c.files_in_order.ensures.frame.contents)
     ∙ ap (λ (v : FolderValue). listed (in_order before v.files))
     (sym c.prune_progress.ensures.folder))
+    (subst (λ (l : List ListedFile). AllPairs HaveOtherSerials l) (sym c.as_slice-3.ensures.value)
+    c.as_slice-3.ensures.rule.serials)
 
 pub returns-in_err-take_files-clause-does : goal.returns-in_err-take_files-clause-does
 returns-in_err-take_files-clause-does g c =

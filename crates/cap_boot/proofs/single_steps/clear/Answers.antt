@@ -8,7 +8,6 @@ use Rattle.cap_boot.specs.declared.fault.BootFault.TheVariants.{Memory}
 use Rattle.cap_boot.specs.Commits.{IsStored, LeavesBatch}
 use Rattle.cap_boot.specs.Going.{IsAny}
 use Rattle.cap_boot.specs.Keeps.{KeepsNothing}
-use Rattle.cap_boot.specs.Situations.{situation}
 use Rattle.cap_boot.specs.Tasks.{clear_tasks}
 use Rattle.cap_boot.proofs.Batches.{batch_fails, batch_goes}
 use Rattle.cap_boot.proofs.Singles.{at_report, clears_next}
@@ -45,7 +44,7 @@ returns-clause-does g c x =
     batch_goes x IsAny KeepsNothing clear_tasks (at_report s old r)
     (at_report t new (record r { steps = c.saturating_add-report.result }))
     (clear_changes (variables_of s)) one_step tt (clears_next x (at_report s old r))
-    (λ b rest at left. tt) (λ q p. refl)
+    (λ b rest way at left. tt) (λ q p. refl)
     (λ few. ap (λ (n : ℕ). record r { steps = n })
     (let count : c.saturating_add-report.result ≡ r.steps + 1 =
     omega (arith, c.saturating_add-report.ensures, few) in count))

@@ -1,10 +1,10 @@
-use Rattle.std.proofs.Common.{◌≡◌, ◌∷◌, ◌++◌, ◌+◌, [], ℕ, List, Err, Ok, ap, arith, rules, subst, sym, ◌∙◌}
+use Rattle.std.proofs.Common.{◌≡◌, ◌∷◌, ◌++◌, ◌+◌, [], ℕ, List, Err, ap, arith, rules, subst, sym, ◌∙◌}
 use Rattle.reference_machine.specs.Report.{ReportValue, report_value}
 use Rattle.cap_boot.specs.declared.fault.BootFault.TheVariants.{Memory, Volume}
 use Rattle.cap_boot.specs.Going.{Goes, IsFolder, nothing}
 use Rattle.cap_boot.specs.Keeps.{KeepsOthers}
 use Rattle.cap_boot.specs.Tasks.{removal_tasks}
-use Rattle.cap_boot.proofs.Singles.{at_report, remove_fails, remove_goes, removed_told}
+use Rattle.cap_boot.proofs.Singles.{at_report, remove_fails, remove_goes}
 use Rattle.cap_boot.proofs.Works.{as_result, gave_up}
 use Rattle.cap_boot.proofs.single_steps.remove.Goals as goal
 

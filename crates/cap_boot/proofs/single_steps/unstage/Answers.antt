@@ -68,7 +68,7 @@ returns-clause-does g c x =
     (at_report t new
     (record r { steps = c.saturating_add-report.result; unstaged = c.push.new.self.items }))
     (unstage_changes (variables_of s) serial) (unstaged_told serial) tt
-    (unstages_next pair x (at_report s old r)) (λ b rest at left. unstaging_keeps pair x b rest left)
+    (unstages_next pair x (at_report s old r)) (λ b rest way at left. unstaging_keeps pair x b rest left)
     (λ q p. refl)
     (λ few.
     let count : c.saturating_add-report.result ≡ r.steps + 1 =

@@ -18,7 +18,7 @@ loop-pair-init g c =
     record {
       ready = c.requires.ready;
       regions = c.requires.regions;
-      frame = record { told = refl; count = refl; long = λ k. refl };
+      frame = record { told = refl; count = refl; long = λ k. refl; orders = refl };
       faults = omega arith;
       goes = goes_nowhere x IsAny KeepsFolder (pairs_tasks true_formats c.args.pairs.now) _ tt
           folder_kept;

@@ -1,5 +1,5 @@
 use Rattle.std.proofs.Common.{rules, ◌≡◌, ◌≤◌, ◌∙◌, length, sym, ap, subst, arith, refl}
-use Rattle.dev_claims.specs.ClosedBy.{element_told}
+use Rattle.dev_claims.specs.ClosedBy.{element_with}
 use Rattle.dev_claims.specs.Units.{close_changes, device_changes, greatest_changes, next_result}
 use Rattle.dev_claims.specs.Units.{progress_changes, result_changes}
 use Rattle.reference_machine.specs.Results.{result_at}
@@ -27,11 +27,11 @@ push_progress-requires c = record {
 -- what was pushed, one behind another
 made : (c : goal.In_ok-push_progress) → c.push_progress.new.batch.items
     ≡ close_changes c.args.board.now (variables_of c.args.store.now)
-    (element_told c.args.line.now c.args.ids.now c.args.now.now)
+    (element_with c.args.line.now c.args.floor c.args.ids.now c.args.now.now)
 made c =
     let variables = variables_of c.args.store.now in
     let line = c.args.line.now in
-    let told = element_told line c.args.ids.now c.args.now.now in
+    let told = element_with line c.args.floor c.args.ids.now c.args.now.now in
     close_made (device_changes c.args.board.now variables told line.end)
     (λ n. result_changes (result_at c.args.board.now n told told.standing))
     (greatest_changes c.args.board.now (bytes_in variables CapsuleMax))
@@ -41,7 +41,7 @@ made c =
     c.push_greatest.new.batch.items c.push.new.self.items c.push_progress.new.batch.items
     (search rules)
     (c.in_ok-push_device.ensures.ok c.args.ids.now c.args.now.now)
-    c.in_ok-push_result.ensures.ok c.in_ok-push_greatest.ensures.ok c.in_ok-push.ensures.ok
+    (c.in_ok-push_result.ensures.ok c.args.floor) c.in_ok-push_greatest.ensures.ok c.in_ok-push.ensures.ok
     (c.in_ok-set_of.ensures
     ∙ ap (set_of CapsuleLast) (c.in_ok-last.ensures ∙ c.result_name_bytes.ensures.value))
     c.in_ok-push_progress.ensures.ok c.next_result-number.ensures.value
@@ -52,5 +52,5 @@ returns c = record {
   places = c.in_ok-push_progress.ensures.before;
   few = subst (λ cs. length cs ≤ 8) (sym (made c))
       (close_few c.args.board.now (variables_of c.args.store.now)
-      (element_told c.args.line.now c.args.ids.now c.args.now.now));
+      (element_with c.args.line.now c.args.floor c.args.ids.now c.args.now.now));
 }

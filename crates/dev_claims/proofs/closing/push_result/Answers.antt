@@ -25,8 +25,8 @@ returns-clause-before c =
     (search rules) (omega arith) (omega arith) c.requires.before
 
 pub returns-clause-ok : goal.returns-clause-ok
-returns-clause-ok c =
-    result_pushed c.args.board.now c.args.number c.args.line.now c.args.ids.now c.args.now.now
+returns-clause-ok c = λ floor.
+    result_pushed c.args.board.now c.args.number c.args.line.now floor c.args.ids.now c.args.now.now
     c.in_ok-fmp_part.field-0 c.in_ok-value.value c.in_ok-set_of.field-0 c.args.batch.now.items
     c.push.new.self.items c.in_ok-push.ensures.ok c.in_ok-set_of.ensures c.in_ok-value.ensures.value
-    c.requires.line.status (c.in_ok-fmp_part.ensures.value c.args.now.now)
+    c.requires.line.status (c.in_ok-fmp_part.ensures.value floor c.args.now.now)

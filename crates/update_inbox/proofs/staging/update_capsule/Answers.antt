@@ -18,7 +18,9 @@ use Rattle.var_store.specs.Stores.{prepared_of}
 use Rattle.var_store.specs.declared.note.Note.{Note}
 use Rattle.var_store.proofs.WriteLemmas.{banks_then, on_err}
 use Rattle.update_inbox.proofs.BatchLemmas.{batch_refused, may_have_stored, opening_keeps, stored}
-use Rattle.update_inbox.proofs.StageLemmas.{stage_fits, staging_refused}
+use Rattle.update_inbox.proofs.BatchLemmas.{may_have_stored_read, noted_read, opening_noted}
+use Rattle.update_inbox.proofs.BatchLemmas.{opening_reads, stored_read}
+use Rattle.update_inbox.proofs.StageLemmas.{stage_fits, staging_refused, taken_where}
 use Rattle.update_inbox.proofs.staging.update_capsule.Goals as goal
 
 pub returns-in_err-check_list-clause-images : goal.returns-in_err-check_list-clause-images
@@ -106,3 +108,72 @@ returns-in-Ok-clause-moves g c =
           (prepared_of cs).size (free_of s.log)) 4)
           (c.in_ok-batch.ensures ∙ ap batch_of_next c.in-Some.ensures.value);
     }
+
+pub returns-in_err-check_list-clause-kept : goal.returns-in_err-check_list-clause-kept
+returns-in_err-check_list-clause-kept g c =
+    let old = g.W.BenchState.state c.args.bench.now in
+    let new = g.W.BenchState.state c.open_store.new.flash in
+    let s = c.in_ok-store.store in
+    on_err c.from_residual-in_err-check_list.result (opening_noted (stage_batch c.args.address) c.open_store.new.note
+    s.log.seq old new c.in_ok-store.ensures.note (opening_reads old new (stage_batch c.args.address)
+    c.open_store.ensures.frame.told s c.in_ok-store.ensures.stands c.in_ok-store.ensures.value))
+
+pub returns-in_err-batch-clause-kept : goal.returns-in_err-batch-clause-kept
+returns-in_err-batch-clause-kept g c =
+    let old = g.W.BenchState.state c.args.bench.now in
+    let new = g.W.BenchState.state c.open_store.new.flash in
+    let s = c.in_ok-store.store in
+    on_err c.from_residual-in_err-batch.result (opening_noted (stage_batch c.args.address)
+    c.open_store.new.note s.log.seq
+    old new c.in_ok-store.ensures.note (opening_reads old new (stage_batch c.args.address)
+    c.open_store.ensures.frame.told s c.in_ok-store.ensures.stands c.in_ok-store.ensures.value))
+
+pub returns-in-Ok-clause-read : goal.returns-in-Ok-clause-read
+returns-in-Ok-clause-read g c =
+    stored_read (g.W.BenchState.state c.args.bench.now)
+    (g.W.BenchState.state c.open_store.new.flash)
+    (g.W.BenchState.state c.write-written.new.flash) c.open_store.ensures.frame.told
+    c.write-written.ensures.frame.told c.in_ok-store.store c.in_ok-store.ensures.stands
+    c.in_ok-store.ensures.value (stage_batch c.args.address) c.in_ok-batch.batch.items
+    (c.in_ok-batch.ensures ∙ ap batch_of_next c.in-Some.ensures.value) c.in-Ok.ensures.durable
+
+pub returns-clause-kept : goal.returns-clause-kept
+returns-clause-kept g c =
+    noted_read (stage_batch c.args.address) (record c.open_store.new.note { pending = c.pending-note.result })
+    (g.W.BenchState.state c.args.bench.now) (g.W.BenchState.state c.write-written.new.flash)
+    (may_have_stored_read (g.W.BenchState.state c.args.bench.now)
+    (g.W.BenchState.state c.open_store.new.flash)
+    (g.W.BenchState.state c.write-written.new.flash) c.open_store.ensures.frame.told
+    c.write-written.ensures.frame.told c.in_ok-store.store c.in_ok-store.ensures.stands
+    c.in_ok-store.ensures.value (stage_batch c.args.address) c.in_ok-batch.batch.items
+    (c.in_ok-batch.ensures ∙ ap batch_of_next c.in-Some.ensures.value) c.pending-note.result
+    (subst (λ (pending : Option ℕ). MayHaveWritten c.in_ok-batch.batch.items pending
+    (g.W.BenchState.state c.open_store.new.flash) (g.W.BenchState.state c.write-written.new.flash))
+    (sym c.pending-note.ensures.value)
+    (c.in-Err.ensures.images c.in_ok-store.ensures.fresh.stale
+    c.in_ok-store.ensures.fresh.pending)))
+
+pub returns-in_default-clause-kept : goal.returns-in_default-clause-kept
+returns-in_default-clause-kept g c =
+    let old = g.W.BenchState.state c.args.bench.now in
+    let new = g.W.BenchState.state c.open_store.new.flash in
+    let s = c.in_ok-store.store in
+    opening_noted (stage_batch c.args.address) c.open_store.new.note s.log.seq old new
+    c.in_ok-store.ensures.note (opening_reads old new (stage_batch c.args.address)
+    c.open_store.ensures.frame.told s c.in_ok-store.ensures.stands c.in_ok-store.ensures.value)
+
+pub returns-clause-taken : goal.returns-clause-taken
+returns-clause-taken g c =
+    let memory = sym (g.met.W.Platform.memory_is c.open_store.new.flash
+    ∙ ap (λ (r : Rest). r.memory) c.open_store.ensures.frame.rest) in
+    taken_where c.args.address (g.W.BenchState.state c.args.bench.now) c.pending-note.result
+    (record {
+      passes = ap (λ (m : List Segment). coalesced_refusal (coalesced_of m c.args.address)) memory
+          ∙ c.in_ok-check_list.ensures;
+      serial = c.in-Some.delivery.pair.serial;
+      takes = record {
+        store = c.in_ok-store.store;
+        opened = c.in_ok-store.ensures.value;
+        is = ap (option_map (λ (d : Delivery). d.pair.serial)) (sym c.in-Some.ensures.value);
+      };
+    })

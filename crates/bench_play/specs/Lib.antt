@@ -1,0 +1,5 @@
+pub mod Counted
+pub mod FirstBench
+pub mod Happens
+pub mod Inputs
+pub mod Played
