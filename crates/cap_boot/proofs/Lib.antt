@@ -22,6 +22,7 @@ pub mod Onward
 pub mod OpenUnits
 pub mod Openings
 pub mod Parts
+pub mod Refused
 pub mod Reports
 pub mod Prunings
 pub mod Settled

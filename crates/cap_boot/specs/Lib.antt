@@ -11,4 +11,5 @@ pub mod Begun
 pub mod Given
 pub mod Faults
 pub mod Units
+pub mod Checks
 pub mod Closing

@@ -18,6 +18,7 @@ mod unit_list;
 mod unit_steps;
 mod units;
 mod untried;
+mod verdict;
 mod waiting;
 mod writing;
 

@@ -14,15 +14,20 @@ ghost use Rattle.stored_vars.specs.Records.{is_key_name};
 
 use crate::BootFault;
 use crate::to_be_built::to_be_built;
+use crate::unit_steps::close;
+use crate::verdict::{capsule_status, refusal_of};
 use bench_model::{Board, Platform};
 use capsule_grammar::Image;
 use cu_base::{EfiTime, Guid};
+use dev_claims::{UnitIds, dev_state};
 use fmp_slot::SlotForm;
-use reference_machine::{Report, UnitKey};
+use reference_machine::{End, Kind, Report, UnitKey, UnitLine};
 use std::alloc::Global;
 use var_store::VarStore;
 
-/// Tries an item of a capsule on the device of a key.
+/// Tries an item of a capsule on the device of a key. An image that one of the checks before that of
+/// the dependencies refuses is closed with the status of that check. Any other gives up as for want
+/// of memory, before anything is done: the check of the dependencies and the attempt are not built.
 pub(crate) fn do_try<W: Platform, S: SlotForm>(
     alloc: Global,
     board: &Board,
@@ -50,5 +55,26 @@ pub(crate) fn do_try<W: Platform, S: SlotForm>(
         (situation store.new (W.state bench.new) report.new) }
     ensures cause { HasFlashCause (W.state bench.old) (W.state bench.new) result }
 {
-    to_be_built()
+    let floor = dev_state(store, board, key.device).floor;
+    let bytes = image.image.as_slice();
+    let support = image.header.support;
+    let refused = match refusal_of(alloc, board, key.device, floor, bytes, support)? {
+        Some(refused) => refused,
+        None => return to_be_built(),
+    };
+    let line = UnitLine {
+        kind: Kind::Try,
+        key,
+        version: refused.version,
+        end: Some(End::Refused(refused.status)),
+        status: capsule_status(refused.status),
+        result: 0,
+    };
+    let ids = UnitIds {
+        capsule: *capsule,
+        type_id: image.header.type_id,
+        index: image.header.index,
+    };
+    close(alloc, board, now, bench, store, report, line, &ids)?;
+    Ok(())
 }

@@ -1,42 +1,36 @@
 -- The batch that settles the open claim, and what it leaves where the slot was looked at first.
-use Rattle.std.proofs.Common.{◌≡◌, ℕ, true, List, Option, Some, None, Ok, refl, sym, ap, ◌∙◌}
-use Rattle.std.proofs.Common.{subst}
-use Rattle.bench_model.specs.Bench.{AreImages, BenchValue, ChangesCounts, Contents}
-use Rattle.bench_model.specs.Boards.{BoardValue}
-use Rattle.cu_base.specs.declared.time.EfiTime.{EfiTime}
-use Rattle.dev_claims.specs.Claimed.{open_claim_of}
-use Rattle.dev_claims.specs.Ended.{claim_settled, end_read, end_shown, open_settled, settled_by}
-use Rattle.dev_claims.specs.Ended.{IsAttemptEnd, is_same_ticket}
-use Rattle.fmp_slot.specs.Held.{HeldSlot, region_in, shown}
-use Rattle.fmp_slot.specs.declared.slot.Slot.{Slot}
-use Rattle.fmp_slot.specs.declared.slot.Slot.TheVariants as slots
-use Rattle.cu_base.specs.declared.ticket.Ticket.{Ticket}
-use Rattle.reference_machine.specs.declared.unit.End.{End}
-use Rattle.std.proofs.Common.{Bool, false, cond}
-use Rattle.reference_machine.specs.declared.unit.End.TheVariants.{Sealed, Kept}
-use Rattle.stored_vars.specs.declared.claim.Claim.{Claim}
+use Rattle.std.proofs.Common.{◌≡◌, ℕ, true, List, Option, Some, None, Ok, refl, sym, ap, ◌∙◌, subst}
+use Rattle.std.proofs.Common.{Bool, false, cond, get_or, length, min, nat_le, ◌+◌, ◌-◌, ◌^◌, ◌≤◌}
+use Rattle.std.proofs.Common.{[], ◌∷◌, arith}
+use Rattle.std.specs.Prelude.{◌⊎◌}
 use Rattle.bench_model.proofs.ImageLemmas.{image_of_stable}
-use Rattle.bench_model.specs.Bench.{region_of}
+use Rattle.bench_model.specs.Bench.{AreImages, BenchValue, ChangesCounts, Contents, region_of}
+use Rattle.bench_model.specs.Boards.{BoardValue}
 use Rattle.bench_model.specs.Regions.{IsImage}
-use Rattle.fmp_slot.specs.Held.{IsToldStable}
-use Rattle.std.proofs.Common.{get_or, length, min, nat_le, ◌+◌, ◌-◌, ◌^◌, ◌≤◌, [], ◌∷◌, arith}
-use Rattle.dev_claims.specs.Claimed.{ids_on}
+use Rattle.cu_base.specs.declared.ticket.Ticket.{Ticket}
+use Rattle.cu_base.specs.declared.time.EfiTime.{EfiTime}
+use Rattle.dev_claims.specs.Claimed.{open_claim_of, ids_on}
 use Rattle.dev_claims.specs.ClosedBy.{element_with}
 use Rattle.dev_claims.specs.Committing.{LeavesStore, moves_of_commit}
-use Rattle.dev_claims.specs.Ended.{line_ended}
+use Rattle.dev_claims.specs.Ended.{claim_settled, end_read, end_shown, open_settled, settled_by}
+use Rattle.dev_claims.specs.Ended.{IsAttemptEnd, is_same_ticket, line_ended}
 use Rattle.dev_claims.specs.Units.{close_changes}
 use Rattle.dev_claims.specs.declared.closing.UnitIds.{UnitIds}
+use Rattle.fmp_slot.specs.Held.{HeldSlot, region_in, shown, IsToldStable}
+use Rattle.fmp_slot.specs.declared.slot.Slot.{Slot}
+use Rattle.fmp_slot.specs.declared.slot.Slot.TheVariants as slots
+use Rattle.reference_machine.specs.declared.unit.End.{End}
+use Rattle.reference_machine.specs.declared.unit.End.TheVariants.{Sealed, Kept}
 use Rattle.reference_machine.specs.declared.unit.Kind.TheVariants.{Try}
 use Rattle.reference_machine.specs.declared.unit.UnitLine.{UnitLine}
+use Rattle.stored_vars.specs.declared.claim.Claim.{Claim}
 use Rattle.var_log.proofs.Reclaims.{unmoved}
 use Rattle.var_log.specs.Banks.{store_of}
 use Rattle.var_log.specs.Changes.{Variables}
 use Rattle.var_log.specs.Counts.{raised}
 use Rattle.var_log.specs.Logs.{ChangesBanks, LiesOn, LogValue, free_of, store_as_read}
-use Rattle.var_store.specs.Stores.{prepared_of}
 use Rattle.var_log.specs.declared.change.Change.{Change}
-use Rattle.var_store.specs.Stores.{HeldStore, variables_of}
-use Rattle.std.specs.Prelude.{◌⊎◌}
+use Rattle.var_store.specs.Stores.{prepared_of, HeldStore, variables_of}
 use Rattle.var_store.specs.Writes.{HasIn, HasWritten, IsOrReclaims, MayHaveWritten}
 
 -- the end that a slot shows is that of a SetImage
